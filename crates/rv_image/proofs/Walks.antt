@@ -1,7 +1,11 @@
 -- How walks over bytes, objects and texts go on.
-use Rattle.std.proofs.Common.{◌≡◌, ℕ, ◌+◌, ◌<◌, ◌≤◌, ◌-◌, ◌*◌, ◌/◌, ◌^◌, map, List, [], ◌∷◌, length, drop, get_or, refl, sym, ap, ◌∙◌, arith}
+use Rattle.std.proofs.Common.{◌≡◌, ℕ, ◌+◌, ◌<◌, ◌≤◌, ◌-◌, ◌*◌, ◌/◌, ◌^◌, map, List, [], ◌∷◌, length, drop, append_assoc, append-nil, take, ◌++◌, get_or, refl, sym, ap, ◌∙◌, arith}
 use Rattle.std.specs.Prelude.{slice_index, slice_set}
-use Rattle.std.proofs.lemmas.List.{drop_more}
+use Rattle.std.proofs.lemmas.List.{drop_more, take_more}
+use Rattle.std.specs.Int.{w32, to_le_bytes}
+use Rattle.rv_isa.specs.declared.instruction.Inst.{Inst}
+use Rattle.rv_isa.specs.Encoding.{encoding}
+use Rattle.rv_runtime.specs.Bytes.{bytes_of, words_of}
 use Rattle.c_typed.specs.declared.program.Object.{Object}
 use Rattle.rv_code.specs.Frames.{end_from, whole_words}
 use Rattle.rv_code.specs.declared.layout.Places.{Places}
@@ -28,7 +32,7 @@ end_is_behind : (at : ℕ) (sizes : List ℕ) → at ≤ end_from at sizes
 end_is_behind at [] = omega arith
 end_is_behind at (size ∷ more) = omega (arith, end_is_behind (at + whole_words size) more)
 
-all_ends_behind : (at : ℕ) (gs : List RoutineData) → at ≤ all_texts_end at gs
+pub all_ends_behind : (at : ℕ) (gs : List RoutineData) → at ≤ all_texts_end at gs
 all_ends_behind at [] = omega arith
 all_ends_behind at (g ∷ more) = omega (arith, end_is_behind at (map length g.texts), all_ends_behind (end_from at (map length g.texts)) more)
 
@@ -48,3 +52,18 @@ texts_fit gs i at g lt is fit =
     let all : all_texts_end at (map data_of (drop i gs)) ≡ all_texts_end (end_from at (map length g.texts)) (map data_of (drop (i + 1) gs))
         = ap (λ more. all_texts_end at (map data_of more)) (drop_more gs i g lt ∙ ap (λ x. x ∷ drop (i + 1) gs) (sym is)) in
     omega (arith, all_ends_behind (end_from at (map length g.texts)) (map data_of (drop (i + 1) gs)))
+
+-- ---- code as bytes
+
+words_more : (a b : List Inst) → bytes_of (words_of (a ++ b)) ≡ bytes_of (words_of a) ++ bytes_of (words_of b)
+words_more [] b = refl
+words_more (i ∷ a) b =
+    ap (λ more. to_le_bytes w32 (encoding i) ++ more) (words_more a b)
+    ∙ sym (append_assoc (to_le_bytes w32 (encoding i)) (bytes_of (words_of a)) (bytes_of (words_of b)))
+
+pub words_next : (code : List Inst) (k : ℕ) (i : Inst) → k < length code → i ≡ get_or code k i
+    → bytes_of (words_of (take (k + 1) code)) ≡ bytes_of (words_of (take k code)) ++ to_le_bytes w32 (encoding i)
+words_next code k i lt is =
+    ap (λ all. bytes_of (words_of all)) (take_more code k i lt ∙ ap (λ x. take k code ++ x ∷ []) (sym is))
+    ∙ words_more (take k code) (i ∷ [])
+    ∙ ap (λ more. bytes_of (words_of (take k code)) ++ more) (append-nil (to_le_bytes w32 (encoding i)))

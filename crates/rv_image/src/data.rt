@@ -1,21 +1,22 @@
 //! The bytes of the data.
 
-ghost use Rattle.std.specs.Prelude.{◌≡◌, ◌+◌, ◌<◌, ◌≤◌, ◌^◌, IfOk, length, map, slice_index, slice_set};
+ghost use Rattle.std.specs.Prelude.{◌≡◌, ◌+◌, ◌<◌, ◌≤◌, ◌^◌, ◌-◌, ◌++◌, IfOk, length, map, replicate, slice_index, slice_set};
 ghost use Rattle.c_meaning.specs.Program.{object_size};
 ghost use Rattle.c_typed.specs.Programs.{program_data};
 ghost use Rattle.rv_code.specs.Frames.{end_from};
 ghost use Rattle.rv_code.specs.Programs.{all_texts_end};
-ghost use Rattle.rv_image.specs.Data.{put_all_texts, put_bytes, put_initial, put_objects, put_texts, put_values, value_bytes};
-ghost use Rattle.rv_runtime.specs.Routines.{data_place};
-ghost use Rattle.tac_ir.specs.Code.{data_of};
+ghost use Rattle.rv_image.specs.Data.{data_of_program, texts_at, put_all_texts, put_bytes, put_initial, put_objects, put_texts, put_values, value_bytes};
+ghost use Rattle.rv_runtime.specs.Bytes.{data_bytes};
+ghost use Rattle.tac_ir.specs.Code.{code_of, data_of};
 
-use c_typed::{Initial, InitialValue, Object};
+use c_typed::{Initial, InitialValue, Object, Typed};
 use c_types::width;
 use lay_base::{Bytes, NoMemory};
 use rv_code::Places;
+use rv_runtime::runtime_data;
 use source_values::Types;
 use std::alloc::Global;
-use tac_ir::Routine;
+use tac_ir::{Routine, Tac};
 
 const DATA: u32 = 0x0800_0000;
 
@@ -99,7 +100,7 @@ fn put_initial(data: &mut Vec<u8>, q: &Places, at: u32, o: &Object)
 
 /// What objects hold at first, each at its place.
 #[tactic(auto, using(crate::proofs::Walks::objects_more))]
-pub(crate) fn put_objects(data: &mut Vec<u8>, q: &Places, objects: &[Object])
+fn put_objects(data: &mut Vec<u8>, q: &Places, objects: &[Object])
     requires { length q.now.objects ≡ length objects.now }
     ensures { data.new.items ≡ put_objects q.now objects.now q.now.objects data.old.items }
 {
@@ -126,7 +127,7 @@ fn put_texts(data: &mut Vec<u8>, at: u64, texts: &[Bytes]) -> u64
 
 /// The texts of all functions.
 #[tactic(auto, using(crate::proofs::Walks::texts_fit))]
-pub(crate) fn put_all_texts(data: &mut Vec<u8>, at: u64, routines: &[Routine])
+fn put_all_texts(data: &mut Vec<u8>, at: u64, routines: &[Routine])
     requires { all_texts_end at (map data_of routines.now) < 2 ^ 32 }
     ensures { data.new.items ≡ put_all_texts at (map data_of routines.now) data.old.items }
 {
@@ -134,4 +135,62 @@ pub(crate) fn put_all_texts(data: &mut Vec<u8>, at: u64, routines: &[Routine])
     for g in routines {
         at = put_texts(data, at, g.texts.as_slice());
     }
+}
+
+/// The place behind the texts of a function.
+#[tactic(auto, using(crate::proofs::Walks::text_fits))]
+fn texts_end(at: u64, texts: &[Bytes]) -> u64
+    requires { end_from at (map length texts.now) < 2 ^ 32 }
+    ensures { result ≡ end_from at (map length texts.now) }
+{
+    let mut at = at;
+    for text in texts {
+        at += (text.as_slice().len() as u64 + 3) / 4 * 4;
+    }
+    at
+}
+
+/// The place behind the texts of all functions.
+#[tactic(auto, using(crate::proofs::Walks::texts_fit))]
+fn all_texts_end(at: u64, routines: &[Routine]) -> u64
+    requires { all_texts_end at (map data_of routines.now) < 2 ^ 32 }
+    ensures { result ≡ all_texts_end at (map data_of routines.now) }
+{
+    let mut at = at;
+    for g in routines {
+        at = texts_end(at, g.texts.as_slice());
+    }
+    at
+}
+
+/// The runtime's own data, and zeros up to a size.
+fn empty_data(alloc: Global, size: u64, heap_end: u32) -> Result<Vec<u8>, NoMemory>
+    ensures { IfOk result (λ bytes. bytes.items ≡ data_bytes heap_end ++ replicate (size - 256) 0) }
+{
+    let Ok(zeros) = vec![in alloc; 0; size.saturating_sub(256) as usize] else {
+        return Err(NoMemory);
+    };
+    let Ok(mut bytes) = runtime_data(alloc, heap_end) else {
+        return Err(NoMemory);
+    };
+    match bytes.extend_from_slice(zeros.as_slice()) {
+        Ok(()) => Ok(bytes),
+        Err(_) => Err(NoMemory),
+    }
+}
+
+/// The data of a program whose texts lie from a place on.
+pub(crate) fn data(alloc: Global, p: &Typed, t: &Tac, q: &Places, texts: u64, heap_end: u32) -> Result<Vec<u8>, NoMemory>
+    requires each { length q.now.objects ≡ length p.now.objects }
+    requires texts { texts ≡ texts_at (program_data p.now) }
+    requires small { all_texts_end texts (code_of t.now).routines < 2 ^ 32 }
+    ensures { IfOk result (λ bytes. bytes.items ≡ data_of_program (program_data p.now) (code_of t.now) q.now heap_end) }
+{
+    let routines = t.routines.as_slice();
+    let end = all_texts_end(texts, routines);
+    let size = (end.saturating_sub(u64::from(DATA)) + 15) / 16 * 16;
+    let mut bytes = empty_data(alloc, size, heap_end)?;
+    put_objects(&mut bytes, q, p.objects.as_slice());
+    put_all_texts(&mut bytes, texts, routines);
+    Ok(bytes)
 }

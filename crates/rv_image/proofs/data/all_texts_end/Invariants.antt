@@ -1,0 +1,7 @@
+use Rattle.std.proofs.Common.{◌≡◌, drop, map}
+use Rattle.rv_code.specs.Programs.{all_texts_end}
+use Rattle.tac_ir.specs.Code.{data_of}
+use Rattle.rv_image.proofs.data.all_texts_end.Given as goal
+
+abbrev pub invariant-loop-g : goal.invariant-loop-g
+invariant-loop-g l = all_texts_end l.at (map data_of (drop l.g-index l.routines)) ≡ all_texts_end l.fn.at (map data_of l.fn.routines)
