@@ -228,8 +228,10 @@ offset_in by = if_all (by == 0) [] _ tt
     (λ e. joined (number_code 6 by) _ (number_in 6 by (omega arith)) ((omega arith, omega arith, omega arith), tt)))
 
 distance_in : (size : ℕ) → InRange (distance_code size)
-distance_in size = ((omega arith, omega arith, omega arith),
-    joined (number_code 6 size) _ (number_in 6 size (omega arith)) ((omega arith, omega arith, omega arith), tt))
+distance_in size = (
+  (omega arith, omega arith, omega arith),
+  joined (number_code 6 size) _ (number_in 6 size (omega arith)) ((omega arith, omega arith, omega arith), tt),
+)
 
 -- ---- steps
 
@@ -255,14 +257,49 @@ answer_in : (place t : ℕ) → InRange (answer_code place t)
 answer_in place t = joined (call_code place) _ (call_in place) (give_in t 10 x10)
 
 write_in : InRange write_code
-write_in = ((omega arith, omega arith), ((omega arith, omega arith, short 64 (omega arith)), ((omega arith, omega arith, short 64 (omega arith)),
-    ((omega arith, omega arith, short 1 (omega arith)), ((omega arith, omega arith, short 1 (omega arith)), ((omega arith, omega arith, short 64 (omega arith)),
-    (tt, ((omega arith, omega arith, short 0 (omega arith)), tt))))))))
+write_in = (
+  (omega arith, omega arith),
+  (
+    (omega arith, omega arith, short 64 (omega arith)),
+    (
+      (omega arith, omega arith, short 64 (omega arith)),
+      (
+        (omega arith, omega arith, short 1 (omega arith)),
+        (
+          (omega arith, omega arith, short 1 (omega arith)),
+          (
+            (omega arith, omega arith, short 64 (omega arith)),
+            (tt, ((omega arith, omega arith, short 0 (omega arith)), tt)),
+          ),
+        ),
+      ),
+    ),
+  ),
+)
 
 read_in : InRange read_code
-read_in = ((omega arith, omega arith, short 0 (omega arith)), ((omega arith, omega arith), ((omega arith, omega arith, short 64 (omega arith)),
-    ((omega arith, omega arith, short 1 (omega arith)), ((omega arith, omega arith, short 63 (omega arith)), (tt, ((omega arith, omega arith, over_two),
-    ((omega arith, omega arith, short 0 (omega arith)), ((omega arith, over_one), ((omega arith, omega arith, minus_one), tt))))))))))
+read_in = (
+  (omega arith, omega arith, short 0 (omega arith)),
+  (
+    (omega arith, omega arith),
+    (
+      (omega arith, omega arith, short 64 (omega arith)),
+      (
+        (omega arith, omega arith, short 1 (omega arith)),
+        (
+          (omega arith, omega arith, short 63 (omega arith)),
+          (
+            tt,
+            (
+              (omega arith, omega arith, over_two),
+              ((omega arith, omega arith, short 0 (omega arith)), ((omega arith, over_one), ((omega arith, omega arith, minus_one), tt))),
+            ),
+          ),
+        ),
+      ),
+    ),
+  ),
+)
   where
     over_one : IsDistance (pos 8)
     over_one = (omega (arith, ints), omega (arith, ints), refl)
@@ -305,9 +342,14 @@ module _ (l : Layout) where
       (joined (parameter_code l x r) _ (parameter_in x r) (parameters_in (x + 1) more))
 
   entry_in : (all : List Parameter) → InRange (entry_code l all)
-  entry_in all = joined (number_code 5 (stack_place + l.size)) _ (number_in 5 (stack_place + l.size) x5)
-      ((omega arith, omega arith, over_one), (tt, joined (number_code 5 l.size) _ (number_in 5 l.size x5)
-      ((omega arith, omega arith, omega arith), joined (keep_code a_word 1 2 0) _ (keep_in a_word 1 2 0 (omega arith) (omega arith)) (parameters_in 0 all))))
+  entry_in all = joined (number_code 5 (stack_place + l.size)) _ (number_in 5 (stack_place + l.size) x5) (
+    (omega arith, omega arith, over_one),
+    (
+      tt,
+      joined (number_code 5 l.size) _ (number_in 5 l.size x5)
+          ((omega arith, omega arith, omega arith), joined (keep_code a_word 1 2 0) _ (keep_in a_word 1 2 0 (omega arith) (omega arith)) (parameters_in 0 all)),
+    ),
+  )
     where
       over_one : IsBranchDistance (pos 8)
       over_one = (omega (arith, ints), omega (arith, ints), refl)
@@ -371,8 +413,10 @@ module _ (p : Places) (g : RoutineData) (l : Layout) where
   step_in (S.Begin x size) = tt
   step_in (S.End x) = tt
   step_in (S.Forget x size) = tt
-  step_in (S.Zeros x size) = joined (block_code l 10 x 0) _ (block_in l 10 x 0 x10) ((omega arith, omega arith, short 0 (omega arith)),
-      joined (number_code 12 size) _ (number_in 12 size (omega arith)) (call_in fill_entry))
+  step_in (S.Zeros x size) = joined (block_code l 10 x 0) _ (block_in l 10 x 0 x10) (
+    (omega arith, omega arith, short 0 (omega arith)),
+    joined (number_code 12 size) _ (number_in 12 size (omega arith)) (call_in fill_entry),
+  )
   step_in (S.Text x by n) = joined (block_code l 10 x by) _ (block_in l 10 x by x10) (joined (place_code 11 (slice_index l.texts n)) _
       (place_in 11 (slice_index l.texts n) (omega arith)) (joined (number_code 12 (length (get_or g.texts n []))) _ (number_in 12 (length (get_or g.texts n [])) (omega arith)) (call_in copy_entry)))
   step_in (S.Began f n) = ((omega arith, omega arith, short 0 (omega arith)), tt)

@@ -105,7 +105,8 @@ fn needs(g: &Routine, sizes: &mut Vec<u32>) -> u64
     slots
 }
 
-/// Where blocks of those sizes begin, each at a multiple of 4 behind the one before it and the first at `at`, which is one itself; and the place behind the last.
+/// Where blocks of those sizes begin, each at a multiple of 4 behind the one before it and the first at `at`, which is a multiple of 4 itself; and the place
+/// behind the last.
 #[tactic(auto, using(crate::proofs::Lists::end_is_behind))]
 pub fn places(alloc: Global, sizes: &[u32], at: u64) -> Result<(Vec<u32>, u64), NoMemory>
     requires { end_from at sizes.now < 2 ^ 32 }

@@ -43,14 +43,14 @@ pub text_fits : (texts : List (List ℕ)) (i at : ℕ) (text : List ℕ) → i <
     → end_from at (map length (drop i texts)) < 2 ^ 32 → at + (length text + 3) / 4 * 4 < 2 ^ 32
 text_fits texts i at text lt is fit =
     let all : end_from at (map length (drop i texts)) ≡ end_from (at + (length text + 3) / 4 * 4) (map length (drop (i + 1) texts))
-        = ap (λ more. end_from at (map length more)) (drop_more texts i text lt ∙ ap (λ x. x ∷ drop (i + 1) texts) (sym is)) in
+    = ap (λ more. end_from at (map length more)) (drop_more texts i text lt ∙ ap (λ x. x ∷ drop (i + 1) texts) (sym is)) in
     omega (arith, end_is_behind (at + (length text + 3) / 4 * 4) (map length (drop (i + 1) texts)))
 
 pub texts_fit : (gs : List Routine) (i at : ℕ) (g : Routine) → i < length gs → g ≡ get_or gs i g
     → all_texts_end at (map data_of (drop i gs)) < 2 ^ 32 → end_from at (map length g.texts) < 2 ^ 32
 texts_fit gs i at g lt is fit =
     let all : all_texts_end at (map data_of (drop i gs)) ≡ all_texts_end (end_from at (map length g.texts)) (map data_of (drop (i + 1) gs))
-        = ap (λ more. all_texts_end at (map data_of more)) (drop_more gs i g lt ∙ ap (λ x. x ∷ drop (i + 1) gs) (sym is)) in
+    = ap (λ more. all_texts_end at (map data_of more)) (drop_more gs i g lt ∙ ap (λ x. x ∷ drop (i + 1) gs) (sym is)) in
     omega (arith, all_ends_behind (end_from at (map length g.texts)) (map data_of (drop (i + 1) gs)))
 
 -- ---- code as bytes

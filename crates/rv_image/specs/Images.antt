@@ -42,5 +42,5 @@ image_of p c heap stack = image_with (text_of_program p c stack)
 -- the program fits into the parts of the address space
 pub record Fits (p : ProgramData) (t : Tac) : Type 0 where
   pub small : AreSmall t (texts_at p)
-  pub text : (stack_end : ℕ) → 4 * length (program_code (code_of t) stack_end (object_places p) (texts_at p)) ≤ 0x04000000
-  pub globals : data_size p (code_of t) ≤ 0x02000100
+  pub text : (stack : ℕ) → length (text_of_program p (code_of t) stack) ≤ 0x04001000
+  pub globals : (heap_end : ℕ) → length (data_of_program p (code_of t) (places_of (code_of t) (object_places p)) heap_end) ≤ 0x02000100

@@ -21,7 +21,11 @@ use tac_ir::{Routine, Tac};
 const DATA: u32 = 0x0800_0000;
 
 /// How many bytes each object takes.
-pub(crate) fn object_sizes(alloc: Global, types: &Types<'_>, objects: &[Object]) -> Result<Vec<u32>, NoMemory>
+pub(crate) fn object_sizes(
+    alloc: Global,
+    types: &Types<'_>,
+    objects: &[Object],
+) -> Result<Vec<u32>, NoMemory>
     ensures { IfOk result (λ sizes. sizes.items ≡ map (object_size (program_data types.now)) objects.now) }
 {
     let mut sizes = Vec::new(alloc);
@@ -74,9 +78,19 @@ fn put_value(data: &mut Vec<u8>, q: &Places, at: usize, value: &InitialValue)
     match value {
         InitialValue::Number(kind, n) => put(data, at, &n.to_le_bytes()[..width(*kind) as usize]),
         InitialValue::Address(_, object, offset) => {
-            put(data, at, &place_at(q.objects.as_slice(), *object).wrapping_add(*offset).to_le_bytes())
+            put(
+                data,
+                at,
+                &place_at(q.objects.as_slice(), *object)
+                    .wrapping_add(*offset)
+                    .to_le_bytes(),
+            )
         }
-        InitialValue::Function(_, f) => put(data, at, &place_at(q.entries.as_slice(), *f).to_le_bytes()),
+        InitialValue::Function(_, f) => put(
+            data,
+            at,
+            &place_at(q.entries.as_slice(), *f).to_le_bytes(),
+        ),
     }
 }
 
@@ -119,7 +133,11 @@ fn put_texts(data: &mut Vec<u8>, at: u64, texts: &[Bytes]) -> u64
 {
     let mut at = at;
     for text in texts {
-        put(data, at.saturating_sub(u64::from(DATA)) as usize, text.as_slice());
+        put(
+            data,
+            at.saturating_sub(u64::from(DATA)) as usize,
+            text.as_slice(),
+        );
         at += (text.len() as u64 + 3) / 4 * 4;
     }
     at
@@ -180,7 +198,14 @@ fn empty_data(alloc: Global, size: u64, heap_end: u32) -> Result<Vec<u8>, NoMemo
 }
 
 /// The data of a program whose texts lie from a place on.
-pub(crate) fn data(alloc: Global, p: &Typed, t: &Tac, q: &Places, texts: u64, heap_end: u32) -> Result<Vec<u8>, NoMemory>
+pub(crate) fn data(
+    alloc: Global,
+    p: &Typed,
+    t: &Tac,
+    q: &Places,
+    texts: u64,
+    heap_end: u32,
+) -> Result<Vec<u8>, NoMemory>
     requires each { length q.now.objects ≡ length p.now.objects }
     requires texts { texts ≡ texts_at (program_data p.now) }
     requires small { all_texts_end texts (code_of t.now).routines < 2 ^ 32 }

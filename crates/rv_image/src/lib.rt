@@ -5,6 +5,6 @@
 #![tactic(auto)]
 
 mod data;
-mod image;
+mod parts;
 
-pub use image::image;
+pub use parts::image;

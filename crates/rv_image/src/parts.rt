@@ -1,7 +1,8 @@
-//! The image of a program.
+//! The parts of an image, and the image of a program.
 
-ghost use Rattle.std.specs.Prelude.{◌≡◌, ◌<◌, ◌≤◌, ◌^◌, ◌++◌, All, IfOk, OnOk, length, vec_len};
+ghost use Rattle.std.specs.Prelude.{◌≡◌, ◌<◌, ◌≤◌, ◌^◌, ◌++◌, All, IfOk, OnOk, length};
 ghost use Rattle.c_typed.specs.Programs.{program_data};
+ghost use Rattle.rv_image.specs.Data.{object_places, texts_at};
 ghost use Rattle.rv_image.specs.Images.{Fits, full_segment, image_of, image_with, room_segment};
 ghost use Rattle.rv_isa.specs.Encoding.{IsInRange};
 ghost use Rattle.rv_runtime.specs.Bytes.{bytes_of, runtime_bytes, words_of};
@@ -18,9 +19,13 @@ use std::alloc::{AllocError, Global};
 use tac_ir::Tac;
 
 const TEXT: u32 = 0x0001_0000;
+
 const DATA: u32 = 0x0800_0000;
+
 const STACK: u32 = 0x1000_0000;
+
 const HEAP: u32 = 0x2000_0000;
+
 const MIB: u32 = 0x0010_0000;
 
 /// The flags of a segment that holds code, as in ELF's program header.
@@ -43,7 +48,7 @@ fn put_code(bytes: &mut Vec<u8>, code: &[Inst]) -> Result<(), AllocError>
 
 /// A segment whose bytes are all given.
 fn full(at: u32, flags: u8, bytes: Vec<u8>) -> Segment
-    requires { vec_len bytes < 2 ^ 32 }
+    requires { length bytes.items < 2 ^ 32 }
     ensures { result ≡ full_segment at flags bytes.items }
 {
     Segment {
@@ -82,9 +87,15 @@ fn text(alloc: Global, code: &[Inst]) -> Result<Vec<u8>, NoMemory>
 }
 
 /// An image of text and data, and so many MiB of heap and of stack.
-fn segments(alloc: Global, text: Vec<u8>, globals: Vec<u8>, heap: u32, stack: u32) -> Result<Image, NoMemory>
-    requires text { vec_len text < 2 ^ 32 }
-    requires globals { vec_len globals < 2 ^ 32 }
+fn segments(
+    alloc: Global,
+    text: Vec<u8>,
+    globals: Vec<u8>,
+    heap: u32,
+    stack: u32,
+) -> Result<Image, NoMemory>
+    requires text { length text.items < 2 ^ 32 }
+    requires globals { length globals.items < 2 ^ 32 }
     requires heap { heap ≤ 1024 }
     requires stack { stack ≤ 128 }
     ensures { IfOk result (λ image. image ≡ image_with text.items globals.items heap stack) }
@@ -104,20 +115,29 @@ fn segments(alloc: Global, text: Vec<u8>, globals: Vec<u8>, heap: u32, stack: u3
     }
 }
 
+/// Where the objects of a program lie, and where its texts begin.
+fn places_in(alloc: Global, p: &Typed) -> Result<(List<u32>, u64), NoMemory>
+    requires { texts_at (program_data p.now) < 2 ^ 32 }
+    ensures places { IfOk result (λ made. made.0 ≡ object_places (program_data p.now)) }
+    ensures texts { IfOk result (λ made. made.1 ≡ texts_at (program_data p.now)) }
+{
+    let types = Types::of(alloc, p)?;
+    let sizes = object_sizes(alloc, &types, p.objects.as_slice())?;
+    let (places, end) = places(alloc, sizes.as_slice(), u64::from(DATA) + 256)?;
+    Ok((List::of(places), end))
+}
+
 /// The image of a program and of its code, with so many MiB of heap and of stack. `NoMemory` comes for want of memory, and where the size of a type passes what
 /// `Types::of` takes.
-#[tactic(auto, using(crate::proofs::Fitting::sizes_fit, crate::proofs::Fitting::texts_fit_in_all, crate::proofs::Fitting::one_for_each, crate::proofs::Fitting::code_in_range))]
 pub fn image(alloc: Global, p: &Typed, t: &Tac, heap: u32, stack: u32) -> Result<Image, NoMemory>
     requires fits { Fits (program_data p.now) t.now }
     requires heap { heap ≤ 1024 }
     requires stack { stack ≤ 128 }
     ensures { IfOk result (λ image. image ≡ image_of (program_data p.now) (code_of t.now) heap stack) }
 {
-    let types = Types::of(alloc, p)?;
-    let sizes = object_sizes(alloc, &types, p.objects.as_slice())?;
-    let (objects, texts) = places(alloc, sizes.as_slice(), u64::from(DATA) + 256)?;
+    let (objects, texts) = places_in(alloc, p)?;
     let stack_end = STACK + stack * MIB;
-    let (code, places) = program(alloc, t, stack_end, List::of(objects), texts as u32)?;
+    let (code, places) = program(alloc, t, stack_end, objects, texts as u32)?;
     let globals = data(alloc, p, t, &places, texts, HEAP + heap * MIB)?;
     let text = text(alloc, code.as_slice())?;
     segments(alloc, text, globals, heap, stack)
