@@ -1,0 +1,78 @@
+-- The laws of runs of code.
+use Rattle.std.specs.Prelude.{false, ◌≡◌, ℕ, ◌+◌, ◌≤◌, List, [], ◌∷◌, Option, slice_get}
+use Rattle.lay_base.specs.declared.place.Place.{Place}
+use Rattle.c_types.specs.Types.{CType}
+use Rattle.c_typed.specs.Programs.{ProgramData}
+use Rattle.block_memory.specs.RunWorlds.Events.{Event, entered, heap_weight}
+use Rattle.block_memory.specs.RunWorlds.Worlds.{World, End, world_of}
+use Rattle.block_memory.specs.declared.run_worlds.value.Value.{Value}
+use Rattle.c_meaning.specs.Frames.{Frame}
+use Rattle.c_meaning.specs.Run.{run_of}
+use Rattle.c_meaning.specs.Weights.{IsLight}
+use Rattle.tac_ir.specs.Code.{Code, RoutineData}
+use Rattle.tac_ir.specs.Covering.{Covers}
+use Rattle.tac_ir.specs.Running.{Caller, returns, body, calls, does, go, code_run}
+use Rattle.tac_ir.specs.declared.step.Step.{Step}
+use Rattle.tac_runs.specs.Active.{active, frames, greatest, IsActive}
+use Rattle.tac_runs.specs.Growth.{Grew, Onward}
+use Rattle.tac_runs.specs.Leading.{Leads, KeepsActive, MakesActive}
+use Rattle.tac_runs.specs.Passing.{Passes, PassesTo}
+use Rattle.tac_runs.specs.Room.{Fits}
+
+-- ---- steps
+
+-- a step, the body of a function that was entered, a call, and a return, each to one moment or the end
+pub record Lead (types : List CType) (c : Code) : Type 0 where
+  pub steps : (cs : List Caller) (g : RoutineData) (s : Step) (more : List Step) (f : Frame) (w : World)
+      → Leads w (KeepsActive c cs g w.trace) (λ next. does types c next cs g s more f w)
+  pub bodies : (at : Place) (cs : List Caller) (g : RoutineData) (code : List Step) (all : List Value) (w : World)
+      → Leads w (KeepsActive c cs g w.trace) (λ next. body types c next at cs g code all w)
+  pub calls : (at : Place) (k : ℕ) (cs : List Caller) (all : List Value) (f : Frame) (w : World)
+      → Leads w (MakesActive c cs w.trace) (λ next. calls types c next at k cs (slice_get c.routines k) all f w)
+  pub returns : (cs : List Caller) (v : Option Value) (w : World) → Leads w (MakesActive c cs w.trace) (λ next. returns types c next cs v w)
+
+abbrev pub StepsLead : Type 0
+StepsLead = (types : List CType) (c : Code) → Lead types c
+
+-- ---- runs
+
+-- where at most n steps are taken, the world that is left is later than that of each part of the run
+pub record Grow (types : List CType) (c : Code) (n : ℕ) : Type 0 where
+  pub steps : (cs : List Caller) (g : RoutineData) (more : List Step) (f : Frame) (w : World) → Onward w (world_of (go types c n cs g more f w))
+  pub bodies : (at : Place) (cs : List Caller) (g : RoutineData) (code : List Step) (all : List Value) (w : World)
+      → Onward w (world_of (body types c (go types c n) at cs g code all w))
+  pub calls : (at : Place) (k : ℕ) (cs : List Caller) (all : List Value) (f : Frame) (w : World)
+      → Onward w (world_of (calls types c (go types c n) at k cs (slice_get c.routines k) all f w))
+  pub returns : (cs : List Caller) (v : Option Value) (w : World) → Onward w (world_of (returns types c (go types c n) cs v w))
+
+abbrev pub RunsGrow : Type 0
+RunsGrow = (types : List CType) (c : Code) (n : ℕ) → Grow types c n
+
+-- after any number of steps the active functions of a run are those of its calls
+abbrev pub RunsPass : Type 0
+RunsPass = (types : List CType) (c : Code) (w : World) → active w.trace ≡ [] → (k : ℕ) → Passes types c w k (code_run types c w)
+
+-- and where the run comes to an end, that is later
+abbrev pub CoveredRunsPass : Type 0
+CoveredRunsPass = (types : List CType) (c : Code) (w : World) (e : End) → active w.trace ≡ [] → Covers e (code_run types c w) → (k : ℕ)
+    → PassesTo types c e w k (code_run types c w)
+
+-- ---- weights
+
+-- what only rises while a trace grows
+pub record Rise (old new : List Event) : Type 0 where
+  pub heap : heap_weight old ≤ heap_weight new
+  pub stack : (size : ℕ → ℕ) → greatest size old ≤ greatest size new
+
+abbrev pub WeightsRise : Type 0
+WeightsRise = (old new : List Event) → Grew old new → Rise old new
+
+-- the frames of the calls that are not over, and the one that is entered, are at most the greatest
+abbrev pub CallsAreWithin : Type 0
+CallsAreWithin = (c : Code) (number : ℕ) (numbers : List ℕ) (cs : List Caller) (g : RoutineData) (trace : List Event) → IsActive c number numbers cs g trace
+    → (size : ℕ → ℕ) (k : ℕ) → size k + (size number + frames size numbers) ≤ greatest size (entered k ∷ trace)
+
+-- each trace from which that of a light run grew fits in the room
+abbrev pub LightRunsFit : Type 0
+LightRunsFit = (p : ProgramData) (heap stack : ℕ) (input : List ℕ) (turns : ℕ) → IsLight p heap stack input turns
+    → (trace : List Event) → Grew trace (world_of (run_of p input turns false)).trace → Fits p heap stack trace
