@@ -1,4 +1,9 @@
 //! Agreement of a source program and an ELF file: the statement of compiler correctness.
 //!
-//! Definitions alone, on `lay_base`, `block_memory`, which says how a run of a source program ends, `rv_isa` and `elf32`; the calls that compile cite them.
+//! Definitions, and the law that the third clause of agreement for an input follows from the first two. It stands on `block_memory`, which says how a run of
+//! a source program ends, on `rv_isa` and on `elf32`; the calls that compile cite it.
 #![tactic(auto)]
+
+mod laws;
+
+pub use laws::nothing_else_is_done;
