@@ -13,13 +13,13 @@ use Rattle.rv_isa.specs.Run.{start, run, machine_run}
 use Rattle.elf32.specs.Loaded.{loaded}
 use Rattle.elf32.specs.Written.{data_address, stack_address, heap_address, IsWritable}
 use Rattle.agreement.specs.Agreement.{shows, Agrees}
+use Rattle.agreement.proofs.NothingElse.{agrees_for}
 use Rattle.thin_code.specs.Meaning.{printed, status, thin_run, IsLight}
 use Rattle.thin_code.specs.Code.{program_code, room_segment, image_of}
 use Rattle.thin_code.proofs.Steps.{Comes, comes_one}
 use Rattle.thin_code.proofs.Programs.{IsSmall, Begins, program_works}
 use Rattle.thin_code.proofs.Ranges.{program_in_range, program_length}
 use Rattle.thin_code.proofs.Loading.{segments, layout, entry_stands, program_stands, text_length, zeros_length}
-use Rattle.thin_code.proofs.Runs.{shows_only}
 
 -- ---- the parts of a list
 
@@ -102,13 +102,8 @@ module _ (p : Program) (heap stack : ℕ) (small : All (λ t. punctuators t ≤ 
     loads = loads;
     heap_room = record { segment = room_segment heap_address heap; among = (3, omega arith, refl); is_at = refl; size = refl };
     stack_room = record { segment = room_segment stack_address stack; among = (2, omega arith, refl); is_at = refl; size = refl };
-    each_input = λ input bytes. record {
-      ends = λ n output st rest e light. ends input n output st rest e;
-      goes_on = λ n output rest e light. goes_on input n output rest e;
-      nothing_else = λ defined light.
-          let E = machine_ends input in
-          shows_only (image_of p heap stack).segments (start (image_of p heap stack) input) (thin_run p) input 1 E.0 (status p) (printed p) input E.1 refl;
-    };
+    each_input = λ input bytes. agrees_for (thin_run p) IsLight (image_of p heap stack) input (λ n output st rest e light. ends input n output st rest e)
+        (λ n output rest e light. goes_on input n output rest e);
   }
 
   -- the image has its entry and four segments at their places

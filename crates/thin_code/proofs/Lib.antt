@@ -7,7 +7,6 @@ pub mod Writes
 pub mod Programs
 pub mod Ranges
 pub mod Loading
-pub mod Runs
 pub mod Agreeing
 pub mod Lists
 pub mod ThinParser
