@@ -9,8 +9,8 @@ use Rattle.tac_ir.specs.Covering.{Covers}
 use Rattle.tac_ir.specs.Running.{no_place, Caller, Next, go, code_run}
 use Rattle.tac_ir.specs.declared.step.Step.{Step}
 use Rattle.tac_runs.specs.Active.{active, HasActive}
-use Rattle.tac_runs.specs.Growth.{Onward}
-use Rattle.tac_runs.specs.Laws.{Lead, Grow}
+use Rattle.tac_runs.specs.Growth.{Onward, OnlyAdds}
+use Rattle.tac_runs.specs.Laws.{Lead, Add}
 use Rattle.tac_runs.specs.Leading.{Leads}
 use Rattle.tac_runs.specs.Moments.{Moved, to, over, world_behind, go_on}
 use Rattle.tac_runs.specs.Passing.{Passes, PassesTo}
@@ -28,28 +28,25 @@ module _ (types : List CType) (c : Code) where
 
   -- ---- growth
 
-  abbrev Grows : Next → Type 0
-  Grows next = (cs : List Caller) (g : RoutineData) (more : List Step) (f : Frame) (w : World) → Onward w (world_of (next cs g more f w))
-
-  moved_grows : (next : Next) → Grows next → (m : Moved) → Onward (world_behind m) (world_of (go_on next m))
+  moved_grows : (next : Next) → OnlyAdds next → (m : Moved) → Onward (world_behind m) (world_of (go_on next m))
   moved_grows next grows (to m) = grows m.callers m.routine m.more m.frame m.world
   moved_grows next grows (over e) = onward_same (world_of e)
 
-  led_grows : {w : World} {Holds : Moved → Type 0} {run : Next → End} → Leads w Holds run → (next : Next) → Grows next → Onward w (world_of (run next))
+  led_grows : {w : World} {Holds : Moved → Type 0} {run : Next → End} → Leads w Holds run → (next : Next) → OnlyAdds next → Onward w (world_of (run next))
   led_grows {w} one next grows =
       subst (λ (e : End). Onward w (world_of e)) (sym (one.is next)) (onward_then one.onward (moved_grows next grows one.moved))
 
-  go_grows : (n : ℕ) → Grows (go types c n)
+  pub go_grows : (n : ℕ) → OnlyAdds (go types c n)
   go_grows zero cs g more f w = onward_same w
   go_grows (suc n) cs g [] f w = onward_same w
   go_grows (suc n) cs g (s ∷ more) f w = led_grows (step_leads c types cs g s more f w) (go types c n) (go_grows n)
 
-  pub grow : (n : ℕ) → Grow types c n
-  grow n = record {
-    steps = go_grows n;
-    bodies = λ at cs g code all w. led_grows (body_leads c types at cs g code all w) (go types c n) (go_grows n);
-    calls = λ at k cs all f w. led_grows (calls_lead c types at k cs (slice_get c.routines k) all f w refl) (go types c n) (go_grows n);
-    returns = λ cs v w. led_grows (returns_lead c types cs v w) (go types c n) (go_grows n);
+  pub add : (next : Next) → OnlyAdds next → Add types c next
+  add next adds = record {
+    steps = λ cs g s more f w. led_grows (step_leads c types cs g s more f w) next adds;
+    bodies = λ at cs g code all w. led_grows (body_leads c types at cs g code all w) next adds;
+    calls = λ at k cs all f w. led_grows (calls_lead c types at k cs (slice_get c.routines k) all f w refl) next adds;
+    returns = λ cs v w. led_grows (returns_lead c types cs v w) next adds;
   }
 
   -- ---- moments

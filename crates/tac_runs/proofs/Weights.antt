@@ -7,10 +7,16 @@ use Rattle.c_meaning.specs.Run.{run_of}
 use Rattle.c_meaning.specs.Weights.{frame_of, greatest_frames, IsLight}
 use Rattle.c_meaning.specs.Weights as Source
 use Rattle.tac_ir.specs.Code.{Code, RoutineData}
-use Rattle.tac_ir.specs.Running.{Caller}
+use Rattle.tac_ir.specs.Covering.{Covers}
+use Rattle.tac_ir.specs.Running.{Caller, code_run}
+use Rattle.block_memory.specs.RunWorlds.Worlds.{World}
+use Rattle.c_types.specs.Types.{CType}
 use Rattle.tac_runs.specs.Active.{active, frames, greatest, IsActive}
 use Rattle.tac_runs.specs.Growth.{Grew}
 use Rattle.tac_runs.specs.Laws.{Rise}
+use Rattle.tac_runs.specs.Moments.{world_behind}
+use Rattle.tac_runs.specs.Passing.{Passes}
+use Rattle.tac_runs.proofs.Runs.{covered_runs_pass}
 use Rattle.tac_runs.specs.Room.{AreWithin, Fits, CallHasRoom, AllocationHasRoom}
 
 -- ---- while a trace grows
@@ -54,25 +60,6 @@ pub calls_are_within : (c : Code) (number : ℕ) (numbers : List ℕ) (cs : List
     → IsActive c number numbers cs g trace → (size : ℕ → ℕ) (k : ℕ) → size k + (size number + frames size numbers) ≤ greatest size (entered k ∷ trace)
 calls_are_within c number numbers cs g trace h size k = (let e = ap (frames size) h.are_active in omega (arith, e))
 
-module _ (size : ℕ → ℕ) where
-  fewer : (all : List ℕ) → frames size (drop 1 all) ≤ frames size all
-  fewer [] = omega arith
-  fewer (f ∷ more) = omega arith
-
-  -- what is active now was counted
-  active_within : (trace : List Event) → frames size (active trace) ≤ greatest size trace
-  active_within [] = omega arith
-  active_within (entered f ∷ before) = omega arith
-  active_within (left ∷ before) = (let h = active_within before in omega (arith, h, fewer (active before)))
-  active_within (put byte ∷ before) = active_within before
-  active_within (got byte ∷ before) = active_within before
-  active_within (allocated b e n ∷ before) = active_within before
-  active_within (freed b ∷ before) = active_within before
-  active_within (loaded b o n ∷ before) = active_within before
-  active_within (stored b o n ∷ before) = active_within before
-  active_within (reached b o ∷ before) = active_within before
-  active_within (began f l ∷ before) = active_within before
-
 -- ---- and the source's weights
 
 module _ (p : ProgramData) where
@@ -109,23 +96,37 @@ module _ (p : ProgramData) where
     greatest_within (reached b o ∷ before) = greatest_within before
     greatest_within (began f l ∷ before) = greatest_within before
 
-  pub light_runs_fit : (heap stack : ℕ) (input : List ℕ) (turns : ℕ) → IsLight p heap stack input turns
-      → (trace : List Event) → Grew trace (world_of (run_of p input turns false)).trace → Fits p heap stack trace
-  light_runs_fit heap stack input turns light trace grew =
-      let end = (world_of (run_of p input turns false)).trace in
-      let rise = weights_rise trace end grew in
-      record {
-        heap_fits = omega (arith, rise.heap, light.heap_fits);
-        stack_fits = λ size within. omega (arith, active_within size trace, rise.stack size, greatest_within size within end, light.stack_fits);
-      }
-
 -- ---- room
 
+pub earlier_fits : (size : ℕ → ℕ) (heap stack : ℕ) (old new : List Event) → Grew old new → Fits size heap stack new → Fits size heap stack old
+earlier_fits size heap stack old new grew fits =
+    let rise = weights_rise old new grew in
+    record { heap_fits = omega (arith, rise.heap, fits.heap_fits); stack_fits = omega (arith, rise.stack size, fits.stack_fits) }
+
+pub light_runs_fit : (p : ProgramData) (heap stack : ℕ) (input : List ℕ) (turns : ℕ) → IsLight p heap stack input turns
+    → (size : ℕ → ℕ) → AreWithin p size → Fits size heap stack (world_of (run_of p input turns false)).trace
+light_runs_fit p heap stack input turns light size within = record {
+  heap_fits = light.heap_fits;
+  stack_fits = omega (arith, greatest_within p size within (world_of (run_of p input turns false)).trace, light.stack_fits);
+}
+
+pub light_moments_fit : (p : ProgramData) (heap stack : ℕ) (input : List ℕ) (turns : ℕ) → IsLight p heap stack input turns
+    → (size : ℕ → ℕ) → AreWithin p size → (types : List CType) (c : Code) (w : World) → active w.trace ≡ []
+    → Covers (run_of p input turns false) (code_run types c w) → (k : ℕ)
+    → (passes : Passes types c w k (code_run types c w)) × Fits size heap stack (world_behind passes.moved).trace
+light_moments_fit p heap stack input turns light size within types c w none covers k =
+    let e = run_of p input turns false in
+    let passes = covered_runs_pass types c w e none covers k in (
+      passes.passes,
+      earlier_fits size heap stack (world_behind passes.passes.moved).trace (world_of e).trace passes.onward.trace
+          (light_runs_fit p heap stack input turns light size within),
+    )
+
 pub call_has_room : CallHasRoom
-call_has_room p heap stack size within k trace fits low pointer start few is = omega (arith, fits.stack_fits size within, few, is)
+call_has_room size heap stack k trace end grew fits low pointer start few is =
+    let now = earlier_fits size heap stack (entered k ∷ trace) end grew fits in omega (arith, now.stack_fits, few, is)
 
 pub allocation_has_room : AllocationHasRoom
-allocation_has_room p heap stack block elements n trace fits low unused took so_far weighs = record {
-  has_room = omega (arith, fits.heap_fits, so_far, weighs);
-  within = omega (arith, so_far, weighs);
-}
+allocation_has_room size heap stack block elements n trace end grew fits low unused took so_far weighs =
+    let now = earlier_fits size heap stack (allocated block elements n ∷ trace) end grew fits in
+    record { has_room = omega (arith, now.heap_fits, so_far, weighs); within = omega (arith, so_far, weighs) }

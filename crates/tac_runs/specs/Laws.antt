@@ -11,13 +11,14 @@ use Rattle.c_meaning.specs.Run.{run_of}
 use Rattle.c_meaning.specs.Weights.{IsLight}
 use Rattle.tac_ir.specs.Code.{Code, RoutineData}
 use Rattle.tac_ir.specs.Covering.{Covers}
-use Rattle.tac_ir.specs.Running.{Caller, returns, body, calls, does, go, code_run}
+use Rattle.tac_ir.specs.Running.{Caller, Next, returns, body, calls, does, go, code_run}
 use Rattle.tac_ir.specs.declared.step.Step.{Step}
 use Rattle.tac_runs.specs.Active.{active, frames, greatest, IsActive}
-use Rattle.tac_runs.specs.Growth.{Grew, Onward}
+use Rattle.tac_runs.specs.Growth.{Grew, Onward, OnlyAdds}
 use Rattle.tac_runs.specs.Leading.{Leads, KeepsActive, MakesActive}
+use Rattle.tac_runs.specs.Moments.{world_behind}
 use Rattle.tac_runs.specs.Passing.{Passes, PassesTo}
-use Rattle.tac_runs.specs.Room.{Fits}
+use Rattle.tac_runs.specs.Room.{AreWithin, Fits}
 
 -- ---- steps
 
@@ -36,17 +37,22 @@ StepsLead = (types : List CType) (c : Code) → Lead types c
 
 -- ---- runs
 
--- where at most n steps are taken, the world that is left is later than that of each part of the run
-pub record Grow (types : List CType) (c : Code) (n : ℕ) : Type 0 where
-  pub steps : (cs : List Caller) (g : RoutineData) (more : List Step) (f : Frame) (w : World) → Onward w (world_of (go types c n cs g more f w))
+-- a step, the body of a function, a call, and a return only add where what follows only adds
+pub record Add (types : List CType) (c : Code) (next : Next) : Type 0 where
+  pub steps : (cs : List Caller) (g : RoutineData) (s : Step) (more : List Step) (f : Frame) (w : World)
+      → Onward w (world_of (does types c next cs g s more f w))
   pub bodies : (at : Place) (cs : List Caller) (g : RoutineData) (code : List Step) (all : List Value) (w : World)
-      → Onward w (world_of (body types c (go types c n) at cs g code all w))
+      → Onward w (world_of (body types c next at cs g code all w))
   pub calls : (at : Place) (k : ℕ) (cs : List Caller) (all : List Value) (f : Frame) (w : World)
-      → Onward w (world_of (calls types c (go types c n) at k cs (slice_get c.routines k) all f w))
-  pub returns : (cs : List Caller) (v : Option Value) (w : World) → Onward w (world_of (returns types c (go types c n) cs v w))
+      → Onward w (world_of (calls types c next at k cs (slice_get c.routines k) all f w))
+  pub returns : (cs : List Caller) (v : Option Value) (w : World) → Onward w (world_of (returns types c next cs v w))
 
-abbrev pub RunsGrow : Type 0
-RunsGrow = (types : List CType) (c : Code) (n : ℕ) → Grow types c n
+abbrev pub StepsAdd : Type 0
+StepsAdd = (types : List CType) (c : Code) (next : Next) → OnlyAdds next → Add types c next
+
+-- and a run of any number of steps only adds
+abbrev pub RunsAdd : Type 0
+RunsAdd = (types : List CType) (c : Code) (n : ℕ) → OnlyAdds (go types c n)
 
 -- after any number of steps the active functions of a run are those of its calls
 abbrev pub RunsPass : Type 0
@@ -72,7 +78,17 @@ abbrev pub CallsAreWithin : Type 0
 CallsAreWithin = (c : Code) (number : ℕ) (numbers : List ℕ) (cs : List Caller) (g : RoutineData) (trace : List Event) → IsActive c number numbers cs g trace
     → (size : ℕ → ℕ) (k : ℕ) → size k + (size number + frames size numbers) ≤ greatest size (entered k ∷ trace)
 
--- each trace from which that of a light run grew fits in the room
+-- what fits at the end has fitted before
+abbrev pub EarlierFits : Type 0
+EarlierFits = (size : ℕ → ℕ) (heap stack : ℕ) (old new : List Event) → Grew old new → Fits size heap stack new → Fits size heap stack old
+
+-- a light run fits where each frame is within the weight of a call
 abbrev pub LightRunsFit : Type 0
 LightRunsFit = (p : ProgramData) (heap stack : ℕ) (input : List ℕ) (turns : ℕ) → IsLight p heap stack input turns
-    → (trace : List Event) → Grew trace (world_of (run_of p input turns false)).trace → Fits p heap stack trace
+    → (size : ℕ → ℕ) → AreWithin p size → Fits size heap stack (world_of (run_of p input turns false)).trace
+
+-- and so does each moment of a run of code that comes to its end
+abbrev pub LightMomentsFit : Type 0
+LightMomentsFit = (p : ProgramData) (heap stack : ℕ) (input : List ℕ) (turns : ℕ) → IsLight p heap stack input turns → (size : ℕ → ℕ) → AreWithin p size
+    → (types : List CType) (c : Code) (w : World) → active w.trace ≡ [] → Covers (run_of p input turns false) (code_run types c w)
+    → (k : ℕ) → (passes : Passes types c w k (code_run types c w)) × Fits size heap stack (world_behind passes.moved).trace

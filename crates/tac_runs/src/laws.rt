@@ -1,6 +1,7 @@
 //! What holds of runs of code, and of the room of light ones.
 
-ghost use Rattle.tac_runs.specs.Laws.{StepsLead, RunsGrow, RunsPass, CoveredRunsPass, WeightsRise, CallsAreWithin, LightRunsFit};
+ghost use Rattle.tac_runs.specs.Laws.{StepsLead, StepsAdd, RunsAdd, RunsPass, CoveredRunsPass, WeightsRise, CallsAreWithin};
+ghost use Rattle.tac_runs.specs.Laws.{EarlierFits, LightRunsFit, LightMomentsFit};
 ghost use Rattle.tac_runs.specs.Room.{CallHasRoom, AllocationHasRoom};
 
 /// A step leads to one moment or to the end, whatever the steps behind it do, and so do the body of a function that was entered, a call and a return. The
@@ -9,9 +10,14 @@ pub fn steps_lead()
     ensures { StepsLead }
 {}
 
-/// The world that a run leaves is later than that from which it goes: from a moment, from the body of a function, from a call and from a return.
-pub fn runs_grow()
-    ensures { RunsGrow }
+/// Where what follows only adds to the world, so do a step with what follows it, the body of a function, a call and a return.
+pub fn steps_add()
+    ensures { StepsAdd }
+{}
+
+/// So a run of any number of steps only adds.
+pub fn runs_add()
+    ensures { RunsAdd }
 {}
 
 /// After any number of steps a run of code is at one moment, at which the active functions are those of its calls, or it has ended.
@@ -34,12 +40,23 @@ pub fn calls_are_within()
     ensures { CallsAreWithin }
 {}
 
-/// In a light run all that was asked for so far fits in the heap, and the frames of the active calls fit in the stack with 16,384 bytes beside them.
+/// What fits in the room at the end of a run has fitted before.
+pub fn earlier_fits()
+    ensures { EarlierFits }
+{}
+
+/// In a light run all that was asked for fits in the heap; and where each frame is within the weight of a call of its function, the frames of all active
+/// calls fit in the stack with 16,384 bytes beside them.
 pub fn light_runs_fit()
     ensures { LightRunsFit }
 {}
 
-/// So there is room below the stack pointer for the frame of a function that is entered.
+/// So it is at each moment of a run of code that comes to the light run's end.
+pub fn light_moments_fit()
+    ensures { LightMomentsFit }
+{}
+
+/// Where a run fits, there is room below the stack pointer for the frame of a function that is entered.
 pub fn calls_have_room()
     ensures { CallHasRoom }
 {}

@@ -9,6 +9,6 @@
 mod laws;
 
 pub use laws::{
-    allocations_have_room, calls_are_within, calls_have_room, covered_runs_pass, light_runs_fit,
-    runs_grow, runs_pass, steps_lead, weights_rise,
+    allocations_have_room, calls_are_within, calls_have_room, covered_runs_pass, earlier_fits,
+    light_moments_fit, light_runs_fit, runs_add, runs_pass, steps_add, steps_lead, weights_rise,
 };
