@@ -35,13 +35,15 @@ use Rattle.tac_runs.proofs.Library.{by_load, by_store, by_allocated, by_library,
 use Rattle.tac_runs.proofs.Parts.{by_own, by_slot_now, by_put_any, by_put, by_read, by_read_any, by_read_row, by_inside, by_written, by_end_slot, by_begin, by_emptied, by_end_all, by_receive}
 use Rattle.tac_runs.proofs.Parts.{by_part_of, by_element_of, by_field_through}
 
--- ---- what leads so
+-- ---- where parts lead
 
+-- from an earlier world
 ahead : {w v : World} {Holds : Moved → Type 0} {run : Next → End} → Onward w v → Leads v Holds run → Leads w Holds run
 ahead h one = record { moved = one.moved; is = one.is; onward = onward_then h one.onward; holds = one.holds }
 
-so : {w : World} {Holds Other : Moved → Type 0} {run : Next → End} → Leads w Holds run → ((m : Moved) → Holds m → Other m) → Leads w Other run
-so one h = record { moved = one.moved; is = one.is; onward = one.onward; holds = h one.moved one.holds }
+-- with less known of where it leads
+weaker : {w : World} {Holds Other : Moved → Type 0} {run : Next → End} → Leads w Holds run → ((m : Moved) → Holds m → Other m) → Leads w Other run
+weaker one h = record { moved = one.moved; is = one.is; onward = one.onward; holds = h one.moved one.holds }
 
 -- after an operation
 joined : {A : Type 0} {m : Doing Frame A} {f : Frame} {w : World} {Holds : Moved → Type 0} {run : Next → A → Frame → World → End} → Adds A m f w
@@ -59,6 +61,7 @@ joined {A} {m} {f} {w} {Holds} {run} one ending other = by_outcome one.outcome o
     }
     by_outcome (ends_run e) is still = record { moved = over e; is = λ next. is (run next); onward = still; holds = ending e }
 
+-- to the end
 ends : {w : World} {Holds : Moved → Type 0} (e : End) → Onward w (world_of e) → Holds (over e) → Leads w Holds (λ next. e)
 ends e h holds = record { moved = over e; is = λ next. refl; onward = h; holds = holds }
 
@@ -103,7 +106,7 @@ module _ (c : Code) where
         → Leads w (KeepsActive c cs g w.trace) (λ next. m (λ v own u. returns types c next cs v (left_world u)) f w)
     leaves_lead {w = w} cs g one = joined one (λ e number numbers h. tt) (λ v own u still.
         ahead (record { trace = (left ∷ [], refl); blocks = omega arith })
-        (so (returns_lead cs v (left_world u))
+        (weaker (returns_lead cs v (left_world u))
         (λ m makes number numbers a. makes numbers a.wait (ap (drop 1) (still.active ∙ a.are_active)))))
 
     -- ---- functions are entered
@@ -126,7 +129,7 @@ module _ (c : Code) where
         limited (w.is_limited && nat_lt greatest_depth (w.depth + 1)) (out_of_room Depth (w.depth + 1) (record w { turns = t }))
         (record { trace = ([], refl); blocks = omega arith }) (λ numbers are h. tt)
         (ahead (record { trace = (entered f ∷ [], refl); blocks = omega arith })
-        (so (body_leads at cs g g.code all (record w { turns = t; depth = w.depth + 1; trace = entered f ∷ w.trace }))
+        (weaker (body_leads at cs g g.code all (record w { turns = t; depth = w.depth + 1; trace = entered f ∷ w.trace }))
         (λ m keeps numbers are h. keeps f numbers (record { runs = is; wait = are; are_active = ap (λ all. f ∷ all) h }))))
 
     pub calls_lead : (at : Place) (f : ℕ) (cs : List Caller) (o : Option RoutineData) (all : List Value) (own : Frame) (w : World)
@@ -223,11 +226,11 @@ module _ (c : Code) where
           plain cs g (λ v. if n == v then led g target else more) (by_bind (by_read a f w) (λ v. by_tested no_place (as_word v)))
       step_leads (S.Call t at k all) more f w =
           joined (by_read_row at all.first all.count f w) (λ e number numbers h. tt) (λ vs own v still.
-          so (calls_lead at k (record { to = t; routine = g; more = more; frame = own } ∷ cs) (slice_get c.routines k) vs own v refl) (waits t more own still))
+          weaker (calls_lead at k (record { to = t; routine = g; more = more; frame = own } ∷ cs) (slice_get c.routines k) vs own v refl) (waits t more own still))
       step_leads (S.CallThrough t at ty a all) more f w =
           joined (by_read a f w) (λ e number numbers h. tt) (λ q h v one.
           joined (by_read_row at all.first all.count h v) (λ e number numbers h. tt) (λ vs own u other.
-          so (through_lead at (type_in types ty) (pointer_of q) (record { to = t; routine = g; more = more; frame = own } ∷ cs) vs own u)
+          weaker (through_lead at (type_in types ty) (pointer_of q) (record { to = t; routine = g; more = more; frame = own } ∷ cs) vs own u)
           (waits t more own (still_then one other))))
       step_leads (S.Library t at which all) more f w =
           plain cs g (λ u. more) (by_bind (by_bind (by_read_row at all.first all.count f w) (by_library at which)) (by_put_any t))
