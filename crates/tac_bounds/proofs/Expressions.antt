@@ -12,7 +12,7 @@ use Rattle.c_typed.specs.declared.program.Local.{Local}
 use Rattle.c_typed.specs.Programs.{ProgramData}
 use Rattle.c_typed.specs.Trees as T
 use Rattle.c_typed.specs.Trees.{Expression, expression, Node, Path, path, PathNode, Expressions, OptionalExpression}
-use Rattle.c_meaning.specs.Program.{type_at, access_at, element_size}
+use Rattle.c_meaning.specs.Program.{type_at, size_at, access_at, element_size}
 use Rattle.block_memory.specs.RunWorlds.Operators.{step_op}
 use Rattle.tac_ir.specs.declared.step.Operand.{Operand}
 use Rattle.tac_ir.specs.declared.step.Operand.TheVariants as O
@@ -26,7 +26,6 @@ use Rattle.lower_tac.specs.Expressions.{value_code, node_code}
 use Rattle.lower_tac.specs.Expressions.{effect_code, branch_code, path_code}
 use Rattle.c_well_typed.specs.ProgramWeights.Weights.{weight, weight_of_node, weight_of_path}
 use Rattle.tac_ir.specs.Jumps.{target_of}
-use Rattle.tac_ir.specs.Kinds.{KeepsKinds}
 use Rattle.tac_bounds.specs.Prices.{Prices, price_of, paid}
 use Rattle.tac_ir.specs.Temporaries.{top, top_of}
 use Rattle.tac_bounds.specs.Temporaries.{temporaries}
@@ -48,17 +47,20 @@ module _ (c : Prices) (most labels : ℕ) (p : ProgramData) (locals : List Local
   abbrev pub kinds : List Bool
   kinds = map (λ l. l.block) locals
 
+  abbrev pub sizes : List ℕ
+  sizes = map (λ l. size_at p l.ty) locals
+
   abbrev pub Open : ℕ → Type 0
-  Open = Grows.Open c most kinds
+  Open = Grows.Open c most kinds sizes
 
   free : (d : ℕ) → length kinds ≤ d → Open d
-  free = Grows.free_open c most kinds
+  free = Grows.free_open c most kinds sizes
 
   abbrev pub Made : (rest paid : ℕ) → (code whole : Steps) → Type 0
-  Made = Grows.Grows c most kinds labels
+  Made = Grows.Grows c most kinds sizes labels
 
   abbrev pub Paid : Part → (paid temporaries : ℕ) → Type 0
-  Paid = Grows.Paid c most kinds labels
+  Paid = Grows.Paid c most kinds sizes labels
 
   abbrev pub W : Expression ℕ → ℕ
   W e = weight (paid c) e
@@ -83,6 +85,14 @@ module _ (c : Prices) (most labels : ℕ) (p : ProgramData) (locals : List Local
 
   pub block_is : (x : ℕ) (l : Local) → slice_get locals x ≡ Some l → l.block ≡ true → slice_get kinds x ≡ Some true
   block_is x l e b = kind_is locals x l e ∙ ap Some b
+
+  size_is : (all : List Local) (x : ℕ) (l : Local) → slice_get all x ≡ Some l → slice_get (map (λ l. size_at p l.ty) all) x ≡ Some (size_at p l.ty)
+  size_is [] x l e = cc
+  size_is (o ∷ all) zero l e = ap (λ (o : Option Local). option_map (λ l. size_at p l.ty) o) e
+  size_is (o ∷ all) (suc x) l e = size_is all x l e
+
+  pub own_size : (x : ℕ) (l : Local) → slice_get locals x ≡ Some l → slice_get sizes x ≡ Some (size_at p l.ty)
+  own_size x l e = size_is locals x l e
 
   pub named_is_open : (x : ℕ) (l : Local) → slice_get locals x ≡ Some l → l.block ≡ false → Open x
   named_is_open x l e b = by_kind (slice_get kinds x) (kind_is locals x l e ∙ ap Some b)
@@ -192,35 +202,35 @@ module _ (c : Prices) (most labels : ℕ) (p : ProgramData) (locals : List Local
       → Made c.step (W_path q) code (path_code p locals addressed q to d code)
 
   pub part_paid : (e : Expression ℕ) → ValueGrows e → Paid (part_of p locals e (value_code p locals e)) (W e) (F e)
-  part_paid e one = record { made = λ d code k u h g. one d d code h (Grows.free_open c most kinds d u) u h g k; atom = atom_below e }
+  part_paid e one = record { made = λ d code k u h g. one d d code h (Grows.free_open c most kinds sizes d u) u h g k; atom = atom_below e }
 
   pub place_paid : (addressed : Bool) (q : Path ℕ) → PathGrows addressed q → Paid (place_of p locals q (path_code p locals addressed q)) (W_path q) (F_path q)
-  place_paid addressed q one = record { made = λ d code k u h g. one d d code h (Grows.free_open c most kinds d u) u h g k; atom = place_atom_below q }
+  place_paid addressed q one = record { made = λ d code k u h g. one d d code h (Grows.free_open c most kinds sizes d u) u h g k; atom = place_atom_below q }
 
   abbrev pub next : {r q v w : ℕ} {code middle whole : Steps} → Made r v code middle → Made q w middle whole → Made (r + q) (v + w) code whole
-  next = Grows.next c most kinds labels
+  next = Grows.next c most kinds sizes labels
 
   abbrev pub pay : {r v q w : ℕ} {code whole : Steps} → q + v ≤ r + w → Made r v code whole → Made q w code whole
-  pay = Grows.pay c most kinds labels
+  pay = Grows.pay c most kinds sizes labels
 
-  abbrev pub one : (s : Step) (code : Steps) → Grows.LeadsIfAny (length code) labels (target_of s) → top_of s ≤ most → KeepsKinds kinds s
+  abbrev pub one : (s : Step) (code : Steps) → Grows.LeadsIfAny (length code) labels (target_of s) → top_of s ≤ most → Grows.Keeps c most kinds sizes s
       → Made 0 (price_of c s) code (s ∷ code)
-  one = Grows.one c most kinds labels
+  one = Grows.one c most kinds sizes labels
 
   -- ---- operands and the step that reads them
 
   pub read_one : {x : Part} {w f : ℕ} → Paid x w f → (d : ℕ) (s : Step) (code : Steps) → Grows.LeadsIfAny (length code) labels (target_of s)
-      → (top (operand x d) ≤ most → top_of s ≤ most) → KeepsKinds kinds s → length kinds ≤ d → d < most → d + f ≤ most → 0 < length code
+      → (top (operand x d) ≤ most → top_of s ≤ most) → Grows.Keeps c most kinds sizes s → length kinds ≤ d → d < most → d + f ≤ most → 0 < length code
       → Made c.step (price_of c s + w) code (code_of x d (s ∷ code))
   read_one {x} q d s code to below keeps u k h l =
-      pay (omega arith) (next (one s code to (below (Grows.operand_below c most kinds labels q d k)) keeps)
-      (Grows.code_grows c most kinds labels q d (s ∷ code) (omega arith) u k h))
+      pay (omega arith) (next (one s code to (below (Grows.operand_below c most kinds sizes labels q d k)) keeps)
+      (Grows.code_grows c most kinds sizes labels q d (s ∷ code) (omega arith) u k h))
 
   pub read_both : {x y : Part} {w f v g : ℕ} → Paid x w f → Paid y v g → (d : ℕ) (s : Operand → Operand → Step) (price : ℕ) (code : Steps)
       → ((a b : Operand) → top a ≤ most → top b ≤ most → Made 0 price code (s a b ∷ code))
       → length kinds ≤ d → suc d < most → d + f ≤ most → suc d + g ≤ most → 0 < length code
       → Made c.step (price + w + v) code (both_code x y d (λ a b. s a b ∷ code))
-  read_both q r d s price code last u k h i l = pay (omega arith) (Grows.both_grows c most kinds labels q r d (λ a b. s a b ∷ code) last l u k h i)
+  read_both q r d s price code last u k h i l = pay (omega arith) (Grows.both_grows c most kinds sizes labels q r d (λ a b. s a b ∷ code) last l u k h i)
 
   -- a part costs a step at least
   pub least : {x : Part} {w f : ℕ} → Paid x w f → (d : ℕ) (code : Steps) → 0 < length code → length kinds ≤ d → d < most → d + f ≤ most → c.step ≤ w
@@ -240,11 +250,11 @@ module _ (c : Prices) (most labels : ℕ) (p : ProgramData) (locals : List Local
       by_root (Some x) below = below x refl
 
   result_grows : (to : Option ℕ) (a : Operand) (code : Steps) → Below to → top a ≤ most → Made 0 c.step code (result_code to a code)
-  result_grows None a code h g = pay (omega arith) (Grows.same c most kinds labels)
+  result_grows None a code h g = pay (omega arith) (Grows.same c most kinds sizes labels)
   result_grows (Some to) a code h g = one (S.Set to a) code tt (let k = h.0 in omega (arith, k, g)) (h.1, tt)
 
   no_result_grows : (to : Option ℕ) (code : Steps) → Below to → Made 0 c.step code (no_result to code)
-  no_result_grows None code h = pay (omega arith) (Grows.same c most kinds labels)
+  no_result_grows None code h = pay (omega arith) (Grows.same c most kinds sizes labels)
   no_result_grows (Some to) code h = one (S.Clear to) code tt (let k = h.0 in omega (arith, k)) (h.1, tt)
 
   -- ---- assignments
@@ -260,7 +270,7 @@ module _ (c : Prices) (most labels : ℕ) (p : ProgramData) (locals : List Local
   named_grows {value} g makes at x y d to code k h u l i n =
       let r = result_grows to (O.Temp K.Empty x at) code h (let b = k.0 in omega (arith, b)) in
       let e = r.longer in
-      let t = Grows.tested_grows c most kinds labels y.lacks y.at x (result_code to (O.Temp K.Empty x at) code) k.0 k.1 in
+      let t = Grows.tested_grows c most kinds sizes labels y.lacks y.at x (result_code to (O.Temp K.Empty x at) code) k.0 k.1 in
       let z = t.longer in
       pay (omega arith) (next (next r t) (makes x d (tested_if y.lacks y.at x (result_code to (O.Temp K.Empty x at) code)) k.0 k.1 u l i
       (omega (arith, n, e, z))))
@@ -272,7 +282,7 @@ module _ (c : Prices) (most labels : ℕ) (p : ProgramData) (locals : List Local
   assign_grows (Some x) b t at {y = y} {g = g} one_paid makes other d to code h u k i l n =
       pay (omega arith) (named_grows g makes at x y d to code b h u (omega (arith, k)) (omega (arith, l)) n)
   assign_grows None b t at one_paid makes other d to code h u k i l n =
-      pay (omega arith) (Grows.both_grows c most kinds labels one_paid other d (λ a e. S.Store at (access_at p t) a e ∷ result_code to e code)
+      pay (omega arith) (Grows.both_grows c most kinds sizes labels one_paid other d (λ a e. S.Store at (access_at p t) a e ∷ result_code to e code)
       (λ a e ha he. next (result_grows to e code h he) (one (S.Store at (access_at p t) a e) (result_code to e code) tt (omega (arith, ha, he)) (tt, tt)))
       n u k i l)
 
@@ -285,16 +295,16 @@ module _ (c : Prices) (most labels : ℕ) (p : ProgramData) (locals : List Local
   assign_op_grows (Some x) b t at op right {y = y} one_paid other d to code h u k i l n =
       let r = result_grows to (O.Temp K.Empty x at) code h (let x = b.0 in omega (arith, x)) in
       let after = result_code to (O.Temp K.Empty x at) code in
-      let below = Grows.operand_below c most kinds labels other d (omega (arith, k)) in
+      let below = Grows.operand_below c most kinds sizes labels other d (omega (arith, k)) in
       let s = one (update_step t at op right x (O.Temp K.Empty x at) (operand y d)) after tt (let x = b.0 in omega (arith, x, below)) (b.1, tt) in
       pay (omega arith) (next (next r s)
-      (Grows.code_grows c most kinds labels other d (update_step t at op right x (O.Temp K.Empty x at) (operand y d) ∷ after) (omega arith) u (omega (arith, k))
+      (Grows.code_grows c most kinds sizes labels other d (update_step t at op right x (O.Temp K.Empty x at) (operand y d) ∷ after) (omega arith) u (omega (arith, k))
       (omega (arith, l))))
   assign_op_grows None b t at op right {q} {y} one_paid other d to code h u k i l n =
       let a = settled_operand q d in
       let z = settled_operand y (suc d) in
-      let below = Grows.settled_below c most kinds labels one_paid d (omega (arith, k)) in
-      let right_below = Grows.settled_below c most kinds labels other (suc d) (omega (arith, k)) in
+      let below = Grows.settled_below c most kinds sizes labels one_paid d (omega (arith, k)) in
+      let right_below = Grows.settled_below c most kinds sizes labels other (suc d) (omega (arith, k)) in
       let r = result_grows to (temp at (d + 2)) code h (omega (arith, k)) in
       let stored = result_code to (temp at (d + 2)) code in
       let s = one (S.Store at (access_at p t) a (temp at (d + 2))) stored tt (omega (arith, k, below)) (tt, tt) in
@@ -303,10 +313,10 @@ module _ (c : Prices) (most labels : ℕ) (p : ProgramData) (locals : List Local
       let loaded = update_step t at op right (d + 2) (temp at (d + 2)) z ∷ updated in
       let m = one (S.Load (d + 2) at (access_at p t) a) loaded tt (omega (arith, k, below)) (free (d + 2) (omega (arith, u)), tt) in
       let first = S.Load (d + 2) at (access_at p t) a ∷ loaded in
-      let e = Grows.settled_grows c most kinds labels other (suc d) first (omega arith) (omega (arith, u)) (omega (arith, k)) l in
+      let e = Grows.settled_grows c most kinds sizes labels other (suc d) first (omega arith) (omega (arith, u)) (omega (arith, k)) l in
       let longer = e.longer in
       pay (omega arith) (next (next (next (next (next r s) v) m) e)
-      (Grows.settled_grows c most kinds labels one_paid d (settled y (suc d) first) (omega (arith, longer)) u (omega (arith, k)) i))
+      (Grows.settled_grows c most kinds sizes labels one_paid d (settled y (suc d) first) (omega (arith, longer)) u (omega (arith, k)) i))
 
   pub step_grows : (o : Option ℕ) → Below o → (t : ℕ) (at : Place) (op : StepOp) (before : Bool) {q : Part} {w f : ℕ} → Paid q w f
       → (d : ℕ) (to : Option ℕ) (code : Steps) → Below to → length kinds ≤ d → d + 2 < most → d + f ≤ most → 0 < length code
@@ -326,7 +336,7 @@ module _ (c : Prices) (most labels : ℕ) (p : ProgramData) (locals : List Local
       (one (S.Set d (O.Temp K.Empty x at)) (v ∷ last) tt (let z = b.0 in omega (arith, z, k)) (free d u, tt)))
   step_grows None b t at op before {q} one_paid d to code h u k i n =
       let a = settled_operand q d in
-      let below = Grows.settled_below c most kinds labels one_paid d (omega (arith, k)) in
+      let below = Grows.settled_below c most kinds sizes labels one_paid d (omega (arith, k)) in
       let result = temp at (if before then d + 2 else suc d) in
       let r = result_grows to result code h (by_before before) in
       let stored = result_code to result code in
@@ -337,7 +347,7 @@ module _ (c : Prices) (most labels : ℕ) (p : ProgramData) (locals : List Local
       let loaded = update_step t at (step_op op) (unit_kind (type_at p t)) (d + 2) (temp at (suc d)) (O.Word 1) ∷ updated in
       let m = one (S.Load (suc d) at (access_at p t) a) loaded tt (omega (arith, k, below)) (free (suc d) (omega (arith, u)), tt) in
       pay (omega arith) (next (next (next (next r s) v) m)
-      (Grows.settled_grows c most kinds labels one_paid d (S.Load (suc d) at (access_at p t) a ∷ loaded) (omega arith) u (omega (arith, k)) i))
+      (Grows.settled_grows c most kinds sizes labels one_paid d (S.Load (suc d) at (access_at p t) a ∷ loaded) (omega arith) u (omega (arith, k)) i))
     where
       by_before : (t : Bool) → top (temp at (if t then d + 2 else suc d)) ≤ most
       by_before true = omega (arith, k)
@@ -348,16 +358,16 @@ module _ (c : Prices) (most labels : ℕ) (p : ProgramData) (locals : List Local
       → 0 < length code
       → Made 0 (2 * c.step + w + v) code (held q d (held r (suc d) (S.Fail K.Dead at ∷ code)))
   copy_held {q} {r} one_paid other at d code u k i l n =
-      let e = Grows.held_grows c most kinds labels other (suc d) (S.Fail K.Dead at ∷ code) (omega arith) (omega (arith, u)) k l in
+      let e = Grows.held_grows c most kinds sizes labels other (suc d) (S.Fail K.Dead at ∷ code) (omega arith) (omega (arith, u)) k l in
       let longer = e.longer in
       pay (omega arith) (next (next (one (S.Fail K.Dead at) code tt (omega arith) (tt, tt)) e)
-      (Grows.held_grows c most kinds labels one_paid d (held r (suc d) (S.Fail K.Dead at ∷ code)) (omega (arith, longer)) u (omega (arith, k)) i))
+      (Grows.held_grows c most kinds sizes labels one_paid d (held r (suc d) (S.Fail K.Dead at ∷ code)) (omega (arith, longer)) u (omega (arith, k)) i))
 
   pub copy_grows : (o u : Option ℕ) (at : Place) (size : ℕ) {q r : Part} {w f v g : ℕ} → Paid q w f → Paid r v g
       → (d : ℕ) (to : Option ℕ) (code : Steps) → Below to → length kinds ≤ d → suc d < most → d + f ≤ most → suc d + g ≤ most → 0 < length code
       → Made 0 (2 * c.step + w + v) code (copy_code p o u at size q r d to code)
   copy_grows None None at size one_paid other d to code h u k i l n =
-      pay (omega arith) (Grows.both_grows c most kinds labels one_paid other d (λ a e. S.CopyRecord at size a e ∷ no_result to code)
+      pay (omega arith) (Grows.both_grows c most kinds sizes labels one_paid other d (λ a e. S.CopyRecord at size a e ∷ no_result to code)
       (λ a e ha he. next (no_result_grows to code h) (one (S.CopyRecord at size a e) (no_result to code) tt (omega (arith, ha, he)) (tt, tt)))
       n u k i l)
   copy_grows None (Some y) at size one_paid other d to code h u k i l n = copy_held one_paid other at d code u k i l n

@@ -10,7 +10,7 @@ use Rattle.tac_ir.specs.declared.step.Target.TheVariants as To
 use Rattle.lower_tac.specs.Parts.{Steps, Part, temp, or_temp, operand, unless_any, code_of, tested_if, held, fixed, settled, settled_operand, left_code}
 use Rattle.lower_tac.specs.Parts.{left_operand, both_code}
 use Rattle.tac_ir.specs.Jumps.{IsInside, target_of}
-use Rattle.tac_ir.specs.Kinds.{KeepsKinds}
+use Rattle.tac_ir.specs.Kinds.{IsOpenIfAny, IsBlockIfAny, taken_by, block_of}
 use Rattle.tac_bounds.specs.Prices.{Prices, price_of, price_of_all}
 use Rattle.tac_ir.specs.Temporaries.{top, top_of}
 
@@ -46,7 +46,7 @@ leads_any_later : {n m l k : ℕ} (to : Option Target) → n ≤ m → l ≤ k �
 leads_any_later None h g x = tt
 leads_any_later (Some to) h g x = leads_later to h g x
 
-module _ (c : Prices) (most : ℕ) (kinds : List Bool) where
+module _ (c : Prices) (most : ℕ) (kinds : List Bool) (sizes : List ℕ) where
   -- a temporary that may be written
   abbrev pub Open : ℕ → Type 0
   Open t = slice_get kinds t ≢ Some true
@@ -58,8 +58,16 @@ module _ (c : Prices) (most : ℕ) (kinds : List Bool) where
       by_none None e = λ (q : None ≡ Some true). cc
       by_none (Some b) e = cc
 
+  -- a block begins with the size of its local
+  abbrev pub Blocks : Step → Type 0
+  Blocks (S.Begin x size) = (slice_get kinds x ≡ Some true) × (slice_get sizes x ≡ Some size)
+  Blocks s = IsBlockIfAny kinds (block_of s)
+
+  abbrev pub Keeps : Step → Type 0
+  Keeps s = IsOpenIfAny kinds (taken_by s) × Blocks s
+
   abbrev pub Fits : (n l : ℕ) → Step → Type 0
-  Fits n l s = LeadsIfAny n l (target_of s) × (top_of s ≤ most) × KeepsKinds kinds s
+  Fits n l s = LeadsIfAny n l (target_of s) × (top_of s ≤ most) × Keeps s
 
   abbrev pub AllFit : (n l : ℕ) → Steps → Type 0
   AllFit n l code = Each (Fits n l) code
@@ -79,7 +87,7 @@ module _ (c : Prices) (most : ℕ) (kinds : List Bool) where
     pub same : {code : Steps} → Grows 0 0 code code
     same = record { longer = omega arith; dearer = omega arith; cost = omega arith; sound = λ a. a }
 
-    pub one : (s : Step) (code : Steps) → LeadsIfAny (length code) labels (target_of s) → top_of s ≤ most → KeepsKinds kinds s
+    pub one : (s : Step) (code : Steps) → LeadsIfAny (length code) labels (target_of s) → top_of s ≤ most → Keeps s
         → Grows 0 (price_of c s) code (s ∷ code)
     one s code to h keeps = record {
       longer = omega arith;

@@ -28,7 +28,6 @@ use Rattle.lower_tac.specs.Expressions.{address_code, load_code, convert_code, p
 use Rattle.lower_tac.specs.Expressions.{arguments_code, effect_code, branch_code, path_code, member_code}
 use Rattle.c_well_typed.specs.ProgramWeights.Weights.{weight, weight_of_path, weight_of_all}
 use Rattle.tac_ir.specs.Jumps.{target_of}
-use Rattle.tac_ir.specs.Kinds.{KeepsKinds}
 use Rattle.tac_bounds.specs.Prices.{Prices, price_of, paid}
 use Rattle.tac_ir.specs.Temporaries.{top, top_of}
 use Rattle.tac_bounds.specs.Temporaries.{temporaries}
@@ -48,14 +47,17 @@ module _ (c : Prices) (most labels : ℕ) (p : ProgramData) (locals : List Local
   abbrev kinds : List Bool
   kinds = map (λ l. l.block) locals
 
+  abbrev sizes : List ℕ
+  sizes = map (λ l. size_at p l.ty) locals
+
   abbrev Open : ℕ → Type 0
-  Open = Grows.Open c most kinds
+  Open = Grows.Open c most kinds sizes
 
   abbrev Made : (rest paid : ℕ) → (code whole : Steps) → Type 0
-  Made = Grows.Grows c most kinds labels
+  Made = Grows.Grows c most kinds sizes labels
 
   abbrev Paid : Part → (paid temporaries : ℕ) → Type 0
-  Paid = Grows.Paid c most kinds labels
+  Paid = Grows.Paid c most kinds sizes labels
 
   abbrev W : Expression ℕ → ℕ
   W e = weight (paid c) e
@@ -79,17 +81,17 @@ module _ (c : Prices) (most labels : ℕ) (p : ProgramData) (locals : List Local
   PathGrows = Parts.PathGrows c most labels p locals roomy
 
   abbrev next : {r q v w : ℕ} {code middle whole : Steps} → Made r v code middle → Made q w middle whole → Made (r + q) (v + w) code whole
-  next = Grows.next c most kinds labels
+  next = Grows.next c most kinds sizes labels
 
   abbrev pay : {r v q w : ℕ} {code whole : Steps} → q + v ≤ r + w → Made r v code whole → Made q w code whole
-  pay = Grows.pay c most kinds labels
+  pay = Grows.pay c most kinds sizes labels
 
-  abbrev one : (s : Step) (code : Steps) → Grows.LeadsIfAny (length code) labels (target_of s) → top_of s ≤ most → KeepsKinds kinds s
+  abbrev one : (s : Step) (code : Steps) → Grows.LeadsIfAny (length code) labels (target_of s) → top_of s ≤ most → Grows.Keeps c most kinds sizes s
       → Made 0 (price_of c s) code (s ∷ code)
-  one = Grows.one c most kinds labels
+  one = Grows.one c most kinds sizes labels
 
   free : (d : ℕ) → length kinds ≤ d → Open d
-  free = Grows.free_open c most kinds
+  free = Grows.free_open c most kinds sizes
 
   abbrev value_paid : (e : Expression ℕ) → ValueGrows e → Paid (part_of p locals e (value_code p locals e)) (W e) (F e)
   value_paid = Parts.part_paid c most labels p locals roomy
@@ -102,7 +104,7 @@ module _ (c : Prices) (most labels : ℕ) (p : ProgramData) (locals : List Local
   least = Parts.least c most labels p locals roomy
 
   abbrev read_one : {x : Part} {w f : ℕ} → Paid x w f → (d : ℕ) (s : Step) (code : Steps) → Grows.LeadsIfAny (length code) labels (target_of s)
-      → (top (operand x d) ≤ most → top_of s ≤ most) → KeepsKinds kinds s → length kinds ≤ d → d < most → d + f ≤ most → 0 < length code
+      → (top (operand x d) ≤ most → top_of s ≤ most) → Grows.Keeps c most kinds sizes s → length kinds ≤ d → d < most → d + f ≤ most → 0 < length code
       → Made c.step (price_of c s + w) code (code_of x d (s ∷ code))
   read_one = Parts.read_one c most labels p locals roomy
 
@@ -160,7 +162,7 @@ module _ (c : Prices) (most labels : ℕ) (p : ProgramData) (locals : List Local
       by_block true =
           let b = Parts.local_below c most labels p locals roomy x l is in pay (omega arith)
           (one (S.Set to (O.Temp K.Dead x at)) code tt (omega (arith, h, b)) (o, tt))
-      by_block false = pay (omega arith) (Grows.same c most kinds labels)
+      by_block false = pay (omega arith) (Grows.same c most kinds sizes labels)
 
   part_grows : (o : Option ℕ) (at : Place) (by : ℕ) {q : Part} {w f : ℕ} → Paid q w f → (to d : ℕ) (code : Steps) → to < most → Open to → length kinds ≤ d
       → d < most → d + f ≤ most
@@ -173,14 +175,14 @@ module _ (c : Prices) (most labels : ℕ) (p : ProgramData) (locals : List Local
 
   element_grows : (o : Option ℕ) (at : Place) (z size : ℕ) (addressed : Bool) (kind : IntKind) {q y : Part} {w f v g : ℕ} → Paid q w f → Paid y v g
       → (to d : ℕ) (code : Steps) → to < most → Open to → length kinds ≤ d → suc d < most → d + f ≤ most → suc d + g ≤ most → 0 < length code
-      → Made c.step (c.step + w + v) code (element_code p locals o at z size addressed kind q y to d code)
+      → Made c.step (c.wide + w + v) code (element_code p locals o at z size addressed kind q y to d code)
   element_grows (Some x) at z size addressed kind {y = y} one_paid other to d code h o u k i j n =
       let l = least one_paid d code n u (omega (arith, k)) i in
       pay (omega (arith, l)) (next (one (S.Fail K.Dead at) code tt (omega arith) (tt, tt))
       (read_one other d (S.Element to at z 0 addressed kind (O.Object 0) (operand y d)) (S.Fail K.Dead at ∷ code) tt (λ b. omega (arith, h, b))
       (o, tt) u (omega (arith, k)) (omega (arith, j)) (omega arith)))
   element_grows None at z size addressed kind one_paid other to d code h o u k i j n =
-      read_both one_paid other d (λ a b. S.Element to at z size addressed kind a b) c.step code
+      read_both one_paid other d (λ a b. S.Element to at z size addressed kind a b) c.wide code
       (λ a b ha hb. one (S.Element to at z size addressed kind a b) code tt (omega (arith, h, ha, hb)) (o, tt)) u k i j n
 
   -- ---- branches on a value
@@ -276,7 +278,7 @@ module _ (c : Prices) (most labels : ℕ) (p : ProgramData) (locals : List Local
     node_grows t at (T.pointer_add op x y) to d code h o u k i n =
         pay (omega arith) (read_both (value_paid x (value_grows x)) (value_paid y (value_grows y)) d
         (λ a b. S.Move to at op (element_size p (type_at p t)) (is_pointer (type_at p (ty x)))
-        (count_kind (type_at p (ty x)) (type_at p (ty y))) a b) c.step code
+        (count_kind (type_at p (ty x)) (type_at p (ty y))) a b) c.wide code
         (λ a b ha hb. one (S.Move to at op (element_size p (type_at p t)) (is_pointer (type_at p (ty x)))
         (count_kind (type_at p (ty x)) (type_at p (ty y))) a b) code tt (omega (arith, h, ha, hb)) (o, tt))
         u (omega (arith, i)) (omega (arith, i)) (omega (arith, i)) n)
@@ -328,7 +330,7 @@ module _ (c : Prices) (most labels : ℕ) (p : ProgramData) (locals : List Local
         let a = arguments_grow all (suc d) (s ∷ code) (omega (arith, u)) (omega (arith, i)) (omega arith) in
         let l = a.longer in
         pay (omega arith) (next (next (one s code tt (omega (arith, h, k, i, b)) (o, tt)) a)
-        (Grows.held_grows c most kinds labels (value_paid e (value_grows e)) d (arguments_code p locals all (suc d) (s ∷ code)) (omega (arith, l)) u k
+        (Grows.held_grows c most kinds sizes labels (value_paid e (value_grows e)) d (arguments_code p locals all (suc d) (s ∷ code)) (omega (arith, l)) u k
         (omega (arith, i))))
     node_grows t at (T.library which all) to d code h o u k i n =
         let b = count_below all in
@@ -345,13 +347,13 @@ module _ (c : Prices) (most labels : ℕ) (p : ProgramData) (locals : List Local
     -- the price of the arguments in the call itself is left
     pub arguments_grow : (all : Expressions ℕ) (d : ℕ) (code : Steps) → length kinds ≤ d → d + weight_of_all temporaries all ≤ most → 0 < length code
         → Made (count_of all * c.argument) (weight_of_all (paid c) all) code (arguments_code p locals all d code)
-    arguments_grow T.no_expressions d code u i n = pay (omega arith) (Grows.same c most kinds labels)
+    arguments_grow T.no_expressions d code u i n = pay (omega arith) (Grows.same c most kinds sizes labels)
     arguments_grow (T.and_expression e more) d code u i n =
         let a = arguments_grow more (suc d) code (omega (arith, u)) (omega (arith, i)) n in
         let l = a.longer in
         let m = one_argument (count_of more) c.argument in
         pay (omega (arith, m)) (next a
-        (Grows.held_grows c most kinds labels (value_paid e (value_grows e)) d (arguments_code p locals more (suc d) code) (omega (arith, n, l)) u
+        (Grows.held_grows c most kinds sizes labels (value_paid e (value_grows e)) d (arguments_code p locals more (suc d) code) (omega (arith, n, l)) u
         (omega (arith, i)) (omega (arith, i))))
 
     pub effect_grows : (e : Expression ℕ) → EffectGrows e
@@ -483,7 +485,7 @@ module _ (c : Prices) (most labels : ℕ) (p : ProgramData) (locals : List Local
     way_grows addressed t at (T.deref e) to d code h o u k i n = pay (omega arith) (value_grows e to d code h o u k (omega (arith, i)) n)
     way_grows addressed t at (T.index e x) to d code h o u k i n =
         read_both (value_paid e (value_grows e)) (value_paid x (value_grows x)) d
-        (λ a b. S.Move to at Add (size_at p t) true (kind_of (type_at p (ty x))) a b) c.step code
+        (λ a b. S.Move to at Add (size_at p t) true (kind_of (type_at p (ty x))) a b) c.wide code
         (λ a b ha hb. one (S.Move to at Add (size_at p t) true (kind_of (type_at p (ty x))) a b) code tt (omega (arith, h, ha, hb))
         (o, tt))
         u (omega (arith, i)) (omega (arith, i)) (omega (arith, i)) n
@@ -501,7 +503,7 @@ module _ (c : Prices) (most labels : ℕ) (p : ProgramData) (locals : List Local
         (o, tt) u (omega (arith, k)) (omega (arith, i)) n)
     member_grows (path y b (T.index e x)) at by to d code h o u k i n =
         pay (omega arith) (read_both (value_paid e (value_grows e)) (value_paid x (value_grows x)) d
-        (λ a z. S.ElementField to at (size_at p y) (kind_of (type_at p (ty x))) by a z) c.step code
+        (λ a z. S.ElementField to at (size_at p y) (kind_of (type_at p (ty x))) by a z) c.wide code
         (λ a z ha hb. one (S.ElementField to at (size_at p y) (kind_of (type_at p (ty x))) by a z) code tt (omega (arith, h, ha, hb)) (o, tt))
         u k (omega (arith, i)) (omega (arith, i)) n)
     member_grows (path y b (T.local x)) at by to d code h o u k i n =

@@ -105,7 +105,7 @@ exits_later x h g e = record {
   on_return = return_later x.on_return h g e.on_return;
 }
 
-module _ (c : Prices) (most : ℕ) (kinds : List Bool) where
+module _ (c : Prices) (most : ℕ) (kinds : List Bool) (sizes : List ℕ) where
   -- code with its labels: those that are new lead to steps
   pub record Made (paid : ℕ) (code : Steps) (labels : List ℕ) (whole : Steps) (wide : List ℕ) : Type 0 where
     pub longer : length code ≤ length whole
@@ -115,7 +115,7 @@ module _ (c : Prices) (most : ℕ) (kinds : List Bool) where
     -- each stands before a step of its own
     pub few : length more + length code ≤ length whole
     pub set : Each (IsInside (length whole)) more
-    pub sound : AllFit c most kinds (length code) (length labels) code → AllFit c most kinds (length whole) (length wide) whole
+    pub sound : AllFit c most kinds sizes (length code) (length labels) code → AllFit c most kinds sizes (length whole) (length wide) whole
 
   pub wider : {paid : ℕ} {code whole : Steps} {labels wide : List ℕ} → Made paid code labels whole wide → length labels ≤ length wide
   wider {labels = labels} {wide = wide} a =
@@ -125,7 +125,7 @@ module _ (c : Prices) (most : ℕ) (kinds : List Bool) where
   pub unmade : {code : Steps} {labels : List ℕ} → Made 0 code labels code labels
   unmade {labels = labels} = record { longer = omega arith; cost = omega arith; more = []; is = no_more labels; few = omega arith; set = tt; sound = λ a. a }
 
-  pub made : {r w : ℕ} {code whole : Steps} (labels : List ℕ) → Grows.Grows c most kinds (length labels) r w code whole → Made w code labels whole labels
+  pub made : {r w : ℕ} {code whole : Steps} (labels : List ℕ) → Grows.Grows c most kinds sizes (length labels) r w code whole → Made w code labels whole labels
   made labels a =
       record {
         longer =
@@ -161,9 +161,10 @@ module _ (c : Prices) (most : ℕ) (kinds : List Bool) where
 
   -- ---- scopes
 
-  module _ (p : ProgramData) (g : ℕ) (locals : List Local) (roomy : length locals < most) (are : kinds ≡ map (λ l. l.block) locals) where
+  module _ (p : ProgramData) (g : ℕ) (locals : List Local) (roomy : length locals < most) (are : kinds ≡ map (λ l. l.block) locals)
+      (sized : sizes ≡ map (λ l. size_at p l.ty) locals) where
     abbrev Adds : (labels : ℕ) → (paid : ℕ) → (code whole : Steps) → Type 0
-    Adds labels paid = Grows.Grows c most kinds labels 0 paid
+    Adds labels paid = Grows.Grows c most kinds sizes labels 0 paid
 
     local_below : (x : ℕ) (l : Local) → slice_get locals x ≡ Some l → x < most
     local_below x l e = Parts.local_below c most 0 p locals (omega (arith, roomy)) x l e
@@ -172,37 +173,40 @@ module _ (c : Prices) (most : ℕ) (kinds : List Bool) where
     is_block x l e b =
         subst (λ (all : List Bool). slice_get all x ≡ Some true) (sym are) (Parts.block_is c most 0 p locals (omega (arith, roomy)) x l e b)
 
-    is_open : (x : ℕ) (l : Local) → slice_get locals x ≡ Some l → l.block ≡ false → Grows.Open c most kinds x
+    own_size : (x : ℕ) (l : Local) → slice_get locals x ≡ Some l → slice_get sizes x ≡ Some (size_at p l.ty)
+    own_size x l e = subst (λ (all : List ℕ). slice_get all x ≡ Some (size_at p l.ty)) (sym sized) (Parts.own_size c most 0 p locals (omega (arith, roomy)) x l e)
+
+    is_open : (x : ℕ) (l : Local) → slice_get locals x ≡ Some l → l.block ≡ false → Grows.Open c most kinds sizes x
     is_open x l e b =
         subst (λ (all : List Bool). slice_get all x ≢ Some true) (sym are) (Parts.named_is_open c most 0 p locals (omega (arith, roomy)) x l e b)
 
     begin_grows : (labels x : ℕ) (o : Option Local) → slice_get locals x ≡ o → (code : Steps) → Adds labels c.step code (begin_code p g locals o x code)
-    begin_grows labels x None e code = Grows.pay c most kinds labels (omega arith) (Grows.same c most kinds labels)
+    begin_grows labels x None e code = Grows.pay c most kinds sizes labels (omega arith) (Grows.same c most kinds sizes labels)
     begin_grows labels x (Some l) e code = by_block l.block refl
       where
         by_block : (b : Bool) → l.block ≡ b → Adds labels c.step code (if b then S.Begin x (size_at p l.ty) ∷ code else S.Clear x ∷ code)
         by_block true b =
-            let h = local_below x l e in Grows.one c most kinds labels (S.Begin x (size_at p l.ty)) code tt (omega (arith, h)) (tt, is_block x l e b)
-        by_block false b = let h = local_below x l e in Grows.one c most kinds labels (S.Clear x) code tt (omega (arith, h)) (is_open x l e b, tt)
+            let h = local_below x l e in Grows.one c most kinds sizes labels (S.Begin x (size_at p l.ty)) code tt (omega (arith, h)) (tt, (is_block x l e b, own_size x l e))
+        by_block false b = let h = local_below x l e in Grows.one c most kinds sizes labels (S.Clear x) code tt (omega (arith, h)) (is_open x l e b, tt)
 
     begins_grow : (labels : ℕ) (own : List ℕ) (code : Steps) → Adds labels (each c.step own) code (begins_code p g locals own code)
-    begins_grow labels [] code = Grows.same c most kinds labels
+    begins_grow labels [] code = Grows.same c most kinds sizes labels
     begins_grow labels (x ∷ more) code =
-        Grows.pay c most kinds labels (omega arith) (Grows.next c most kinds labels (begins_grow labels more code)
+        Grows.pay c most kinds sizes labels (omega arith) (Grows.next c most kinds sizes labels (begins_grow labels more code)
         (begin_grows labels x (slice_get locals x) refl (begins_code p g locals more code)))
 
     end_grows : (labels x : ℕ) (o : Option Local) → slice_get locals x ≡ o → (code : Steps) → Adds labels c.step code (end_code p g locals o x code)
-    end_grows labels x None e code = Grows.pay c most kinds labels (omega arith) (Grows.same c most kinds labels)
+    end_grows labels x None e code = Grows.pay c most kinds sizes labels (omega arith) (Grows.same c most kinds sizes labels)
     end_grows labels x (Some l) e code = by_block l.block refl
       where
         by_block : (b : Bool) → l.block ≡ b → Adds labels c.step code (if b then S.End x ∷ code else code)
-        by_block true b = let h = local_below x l e in Grows.one c most kinds labels (S.End x) code tt (omega (arith, h)) (tt, is_block x l e b)
-        by_block false b = Grows.pay c most kinds labels (omega arith) (Grows.same c most kinds labels)
+        by_block true b = let h = local_below x l e in Grows.one c most kinds sizes labels (S.End x) code tt (omega (arith, h)) (tt, is_block x l e b)
+        by_block false b = Grows.pay c most kinds sizes labels (omega arith) (Grows.same c most kinds sizes labels)
 
     ends_grow : (labels : ℕ) (own : List ℕ) (code : Steps) → Adds labels (each c.step own) code (ends_code p g locals own code)
-    ends_grow labels [] code = Grows.same c most kinds labels
+    ends_grow labels [] code = Grows.same c most kinds sizes labels
     ends_grow labels (x ∷ more) code =
-        Grows.pay c most kinds labels (omega arith) (Grows.next c most kinds labels (ends_grow labels more code)
+        Grows.pay c most kinds sizes labels (omega arith) (Grows.next c most kinds sizes labels (ends_grow labels more code)
         (end_grows labels x (slice_get locals x) refl (ends_code p g locals more code)))
 
     pub fallen_below : top_if_any (fallen p g locals) ≤ most
@@ -213,12 +217,12 @@ module _ (c : Prices) (most : ℕ) (kinds : List Bool) where
         by_main false = omega arith
 
     pub exit_grows : (labels : ℕ) (e : Exit) (code : Steps) → ExitLeads (length code) labels e → Adds labels c.step code (exit_code p g locals e code)
-    exit_grows labels (leads to) code h = Grows.one c most kinds labels (S.Jump to) code h (omega arith) (tt, tt)
-    exit_grows labels leaves code h = Grows.one c most kinds labels (S.Return (fallen p g locals)) code tt fallen_below (tt, tt)
+    exit_grows labels (leads to) code h = Grows.one c most kinds sizes labels (S.Jump to) code h (omega arith) (tt, tt)
+    exit_grows labels leaves code h = Grows.one c most kinds sizes labels (S.Return (fallen p g locals)) code tt fallen_below (tt, tt)
 
     pub back_grows : (labels : ℕ) (e : ReturnWay) (code : Steps) → ReturnLeads (length code) labels e → Adds labels c.step code (back_code p g locals e code)
-    back_grows labels at_once code h = Grows.one c most kinds labels (S.ReturnHeld (length locals)) code tt (omega (arith, roomy)) (tt, tt)
-    back_grows labels (behind_ends to) code h = Grows.one c most kinds labels (S.Jump to) code h (omega arith) (tt, tt)
+    back_grows labels at_once code h = Grows.one c most kinds sizes labels (S.ReturnHeld (length locals)) code tt (omega (arith, roomy)) (tt, tt)
+    back_grows labels (behind_ends to) code h = Grows.one c most kinds sizes labels (S.Jump to) code h (omega arith) (tt, tt)
 
     -- the ends of blocks, four times, with three ways out and the way through
     abbrev pub scope_price : (blocks : Bool) → List ℕ → ℕ
@@ -248,12 +252,12 @@ module _ (c : Prices) (most : ℕ) (kinds : List Bool) where
         let j = ends_grow l own (exit_code p g locals x.on_break continued.code) in
         let jl = j.longer in
         let broken = break_end p g locals own x continued in
-        let m = Grows.one c most kinds l (S.Jump (here last)) broken.code (omega (arith, n, al), omega (arith, bl, dl, fl, hl, il, jl)) (omega arith)
+        let m = Grows.one c most kinds sizes l (S.Jump (here last)) broken.code (omega (arith, n, al), omega (arith, bl, dl, fl, hl, il, jl)) (omega arith)
         (tt, tt) in
         let whole = before (S.Jump (here last)) broken in
-        let grown = Grows.next c most kinds l (Grows.next c most kinds l (Grows.next c most kinds l
-        (Grows.next c most kinds l (Grows.next c most kinds l (Grows.next c most kinds l
-        (Grows.next c most kinds l a b) d) f) h) i) j) m in
+        let grown = Grows.next c most kinds sizes l (Grows.next c most kinds sizes l (Grows.next c most kinds sizes l
+        (Grows.next c most kinds sizes l (Grows.next c most kinds sizes l (Grows.next c most kinds sizes l
+        (Grows.next c most kinds sizes l a b) d) f) h) i) j) m in
         pay (omega arith) (next (made out.labels grown)
         (makes (record { on_break = leads (here broken); on_continue = leads (here continued); on_return = behind_ends (here returned) }) whole (omega arith)
         (record {
@@ -309,7 +313,7 @@ module _ (c : Prices) (most : ℕ) (kinds : List Bool) where
         (omega (arith, n, al, bl), omega arith) in
         let dl = d.longer in
         let m = length inner.labels in
-        let f = Grows.one c most kinds m (S.Began g (inner.loops - 1)) inner.code tt (omega arith) (tt, tt) in
+        let f = Grows.one c most kinds sizes m (S.Began g (inner.loops - 1)) inner.code tt (omega arith) (tt, tt) in
         let begun = S.Began g (inner.loops - 1) ∷ inner.code in
         let h = enter m (here tested) begun (omega (arith, n, al), omega (arith, bl, dl)) in
         let hl = h.longer in
@@ -321,6 +325,6 @@ module _ (c : Prices) (most : ℕ) (kinds : List Bool) where
           is = label_set out.labels d.more inner.labels (length begun) d.is;
           few = (let x = d.few in omega (arith, al, bl, hl, x));
           set = ((omega arith, hl), inside_later (omega (arith, hl)) d.more d.set);
-          sound = λ z. fit_later c most kinds (enters (here tested) begun) (omega arith) (omega (arith, as_many))
-              (h.sound (f.sound (d.sound (b.sound (a.sound (fit_later c most kinds out.code (omega arith) (omega (arith, one_more)) z))))));
+          sound = λ z. fit_later c most kinds sizes (enters (here tested) begun) (omega arith) (omega (arith, as_many))
+              (h.sound (f.sound (d.sound (b.sound (a.sound (fit_later c most kinds sizes out.code (omega arith) (omega (arith, one_more)) z))))));
         }

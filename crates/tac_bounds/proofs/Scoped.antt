@@ -5,7 +5,7 @@ use Rattle.c_typed.specs.Trees as T
 use Rattle.c_typed.specs.Trees.{Statement, Statements, Arms}
 use Rattle.c_typed.specs.TypedStatements.{declared_by, declared_by_arms, all_declared, all_declared_by, all_declared_by_arms}
 use Rattle.c_well_typed.specs.ProgramWeights.Weights.{weight_of_statement, weight_of_statements, weight_of_arms, weight_of_parameters, weight_of_locals}
-use Rattle.tac_bounds.specs.Prices.{Prices, paid}
+use Rattle.tac_bounds.specs.Prices.{Prices, paid, price_of_parameters}
 use Rattle.tac_bounds.specs.Scopes.{IsScoped, AreScoped, AreScopedArms}
 use Rattle.tac_bounds.proofs.Outs.{each}
 use Rattle.tac_bounds.proofs.Statements.{price, price_of_all, price_of_arms}
@@ -92,6 +92,6 @@ module _ (c : Prices) where
   locals_pay [] = omega arith
   locals_pay (l ∷ more) = local_pays l.block (weight_of_locals (paid c) more) (each c.step more) (locals_pay more)
 
-  pub parameters_pay : (all : List Local) → weight_of_parameters (paid c) all ≡ 4 * each c.step all
+  pub parameters_pay : (all : List Local) → weight_of_parameters (paid c) all ≡ 4 * each c.step all + price_of_parameters c all
   parameters_pay [] = omega arith
   parameters_pay (l ∷ more) = let h = parameters_pay more in omega (arith, h)

@@ -81,40 +81,43 @@ module _ (c : Prices) (most : ℕ) (p : ProgramData) (g : ℕ) (locals : List Lo
   abbrev kinds : List Bool
   kinds = map (λ l. l.block) locals
 
+  abbrev sizes : List ℕ
+  sizes = map (λ l. size_at p l.ty) locals
+
   free : length kinds ≤ room
   free = let h = so_many_kinds locals in omega (arith, h)
 
-  open_room : Grows.Open c most kinds room
-  open_room = Grows.free_open c most kinds room free
+  open_room : Grows.Open c most kinds sizes room
+  open_room = Grows.free_open c most kinds sizes room free
 
   abbrev Adds : (labels : ℕ) → (paid : ℕ) → (code whole : Steps) → Type 0
-  Adds labels w = Grows.Grows c most kinds labels 0 w
+  Adds labels w = Grows.Grows c most kinds sizes labels 0 w
 
   abbrev Made : (paid : ℕ) (code : Steps) (labels : List ℕ) (whole : Steps) (wide : List ℕ) → Type 0
-  Made = Outs.Made c most kinds
+  Made = Outs.Made c most kinds sizes
 
   abbrev Makes : (paid : ℕ) → (Exits → Out → Out) → Type 0
-  Makes = Outs.Makes c most kinds
+  Makes = Outs.Makes c most kinds sizes
 
   abbrev pay : {v w : ℕ} {code whole : Steps} {labels wide : List ℕ} → v ≤ w → Made v code labels whole wide → Made w code labels whole wide
-  pay = Outs.pay c most kinds
+  pay = Outs.pay c most kinds sizes
 
   abbrev next : {v w : ℕ} {code middle whole : Steps} {labels between wide : List ℕ} → Made v code labels middle between → Made w middle between whole wide
       → Made (v + w) code labels whole wide
-  next = Outs.next c most kinds
+  next = Outs.next c most kinds sizes
 
-  abbrev made : {r w : ℕ} {code whole : Steps} (labels : List ℕ) → Grows.Grows c most kinds (length labels) r w code whole → Made w code labels whole labels
-  made = Outs.made c most kinds
+  abbrev made : {r w : ℕ} {code whole : Steps} (labels : List ℕ) → Grows.Grows c most kinds sizes (length labels) r w code whole → Made w code labels whole labels
+  made = Outs.made c most kinds sizes
 
   low : length locals ≤ most
   low = omega (arith, roomy)
 
   value_paid : (labels : ℕ) (e : Expression ℕ)
-      → Grows.Paid c most kinds labels (part_of p locals e (value_code p locals e)) (weight (paid c) e) (weight temporaries e)
+      → Grows.Paid c most kinds sizes labels (part_of p locals e (value_code p locals e)) (weight (paid c) e) (weight temporaries e)
   value_paid labels e = Parts.part_paid c most labels p locals low e (Nodes.value_grows c most labels p locals low e)
 
   place_paid : (labels : ℕ) (q : T.Path ℕ)
-      → Grows.Paid c most kinds labels (place_of p locals q (path_code p locals false q)) (weight_of_path (paid c) q) (weight_of_path temporaries q)
+      → Grows.Paid c most kinds sizes labels (place_of p locals q (path_code p locals false q)) (weight_of_path (paid c) q) (weight_of_path temporaries q)
   place_paid labels q = Parts.place_paid c most labels p locals low false q (Nodes.path_grows c most labels p locals low false q)
 
   effect_grows : (labels : ℕ) (e : Expression ℕ) (code : Steps) → room + weight temporaries e ≤ most → 0 < length code
@@ -130,8 +133,8 @@ module _ (c : Prices) (most : ℕ) (p : ProgramData) (g : ℕ) (locals : List Lo
       → Leads (length code) labels to → 0 < length code
       → Adds labels (c.step + weight_if_any (paid c) e) code (test_code p g locals e to code)
   test_grows None h labels to code leads n =
-      Grows.pay c most kinds labels (omega arith) (Grows.one c most kinds labels (S.Jump to) code leads (omega arith) (tt, tt))
-  test_grows (Some e) h labels to code leads n = Grows.pay c most kinds labels (omega arith) (branch_grows labels e true to code leads h n)
+      Grows.pay c most kinds sizes labels (omega arith) (Grows.one c most kinds sizes labels (S.Jump to) code leads (omega arith) (tt, tt))
+  test_grows (Some e) h labels to code leads n = Grows.pay c most kinds sizes labels (omega arith) (branch_grows labels e true to code leads h n)
 
   tests_grow : (e : Expression ℕ) → room + weight temporaries e ≤ most → (labels : ℕ) (to : Target) (code : Steps) → Leads (length code) labels to
       → 0 < length code
@@ -140,14 +143,14 @@ module _ (c : Prices) (most : ℕ) (p : ProgramData) (g : ℕ) (locals : List Lo
 
   step_grows : (e : Option (Expression ℕ)) → room + weight_if_any temporaries e ≤ most → (labels : ℕ) (code : Steps) → 0 < length code
       → Adds labels (weight_if_any (paid c) e) code (effect_if_any p g locals e code)
-  step_grows None h labels code n = Grows.same c most kinds labels
+  step_grows None h labels code n = Grows.same c most kinds sizes labels
   step_grows (Some e) h labels code n = effect_grows labels e code h n
 
   -- the number of a `switch`
   number_grows : (labels : ℕ) (e : Expression ℕ) (code : Steps) → room + weight temporaries e ≤ most → 0 < length code
       → Adds labels (W c e) code (number_code p g locals e code)
   number_grows labels e code h n =
-      Grows.pay c most kinds labels (omega arith) (Parts.read_one c most labels p locals low (value_paid labels e) room
+      Grows.pay c most kinds sizes labels (omega arith) (Parts.read_one c most labels p locals low (value_paid labels e) room
       (S.Number room (at_of e) (operand (part_of p locals e (value_code p locals e)) room))
       code tt (λ b. omega (arith, roomy, b)) (open_room, tt) free roomy h n)
 
@@ -155,17 +158,17 @@ module _ (c : Prices) (most : ℕ) (p : ProgramData) (g : ℕ) (locals : List Lo
       → room + weight_if_any temporaries e ≤ most → 0 < length code
       → Adds labels (2 * c.step + weight_if_any (paid c) e) code (return_code p g locals e way code)
   return_grows labels None at_once code leads h n =
-      Grows.pay c most kinds labels (omega arith) (Grows.one c most kinds labels (S.Return None) code tt (omega arith) (tt, tt))
+      Grows.pay c most kinds sizes labels (omega arith) (Grows.one c most kinds sizes labels (S.Return None) code tt (omega arith) (tt, tt))
   return_grows labels None (behind_ends to) code leads h n =
-      Grows.pay c most kinds labels (omega arith) (Grows.next c most kinds labels (Grows.one c most kinds labels (S.Jump to) code leads (omega arith) (tt, tt))
-      (Grows.one c most kinds labels (S.Clear room) (S.Jump to ∷ code) tt (omega (arith, roomy)) (open_room, tt)))
+      Grows.pay c most kinds sizes labels (omega arith) (Grows.next c most kinds sizes labels (Grows.one c most kinds sizes labels (S.Jump to) code leads (omega arith) (tt, tt))
+      (Grows.one c most kinds sizes labels (S.Clear room) (S.Jump to ∷ code) tt (omega (arith, roomy)) (open_room, tt)))
   return_grows labels (Some e) at_once code leads h n =
-      Grows.pay c most kinds labels (omega arith) (Parts.read_one c most labels p locals low (value_paid labels e) room
+      Grows.pay c most kinds sizes labels (omega arith) (Parts.read_one c most labels p locals low (value_paid labels e) room
       (S.Return (Some (operand (part_of p locals e (value_code p locals e)) room)))
       code tt (λ b. b) (tt, tt) free roomy h n)
   return_grows labels (Some e) (behind_ends to) code leads h n =
-      Grows.pay c most kinds labels (omega arith) (Grows.next c most kinds labels (Grows.one c most kinds labels (S.Jump to) code leads (omega arith) (tt, tt))
-      (Grows.held_grows c most kinds labels (value_paid labels e) room (S.Jump to ∷ code) (omega arith) free roomy h))
+      Grows.pay c most kinds sizes labels (omega arith) (Grows.next c most kinds sizes labels (Grows.one c most kinds sizes labels (S.Jump to) code leads (omega arith) (tt, tt))
+      (Grows.held_grows c most kinds sizes labels (value_paid labels e) room (S.Jump to ∷ code) (omega arith) free roomy h))
 
   -- ---- initializers
 
@@ -174,17 +177,17 @@ module _ (c : Prices) (most : ℕ) (p : ProgramData) (g : ℕ) (locals : List Lo
       → Adds labels (c.step + weight_of_path (paid c) q) code (record_code p g locals o x offset q code)
   record_grows labels (Some y) x offset q code b is h i n =
       let l = Parts.least c most labels p locals low (place_paid labels q) (suc room) code n (let z = free in omega (arith, z)) h i in
-      Grows.pay c most kinds labels (omega (arith, l)) (Grows.next c most kinds labels
-      (Grows.one c most kinds labels (S.Fail K.Dead (path_at q)) code tt (omega arith) (tt, tt))
-      (Grows.one c most kinds labels (S.Inside room (path_at q) x offset) (S.Fail K.Dead (path_at q) ∷ code) tt (omega (arith, b, roomy)) (open_room, is)))
+      Grows.pay c most kinds sizes labels (omega (arith, l)) (Grows.next c most kinds sizes labels
+      (Grows.one c most kinds sizes labels (S.Fail K.Dead (path_at q)) code tt (omega arith) (tt, tt))
+      (Grows.one c most kinds sizes labels (S.Inside room (path_at q) x offset) (S.Fail K.Dead (path_at q) ∷ code) tt (omega (arith, b, roomy)) (open_room, is)))
   record_grows labels None x offset q code b is h i n =
       let s = S.CopyRecord (path_at q) (size_at p (path_ty q)) (temp (path_at q) room)
       (operand (place_of p locals q (path_code p locals false q))
       (suc room)) in
       let a = Parts.read_one c most labels p locals low (place_paid labels q) (suc room) s code tt (λ t. omega (arith, roomy, t)) (tt, tt)
       (let z = free in omega (arith, z)) h i n in
-      Grows.pay c most kinds labels (omega arith) (Grows.next c most kinds labels a
-      (Grows.one c most kinds labels (S.Inside room (path_at q) x offset) (code_of (place_of p locals q (path_code p locals false q)) (suc room) (s ∷ code)) tt
+      Grows.pay c most kinds sizes labels (omega arith) (Grows.next c most kinds sizes labels a
+      (Grows.one c most kinds sizes labels (S.Inside room (path_at q) x offset) (code_of (place_of p locals q (path_code p locals false q)) (suc room) (s ∷ code)) tt
       (omega (arith, b, roomy)) (open_room, is)))
 
   store_grows : (labels : ℕ) (x offset : ℕ) (e : Expression ℕ) (code : Steps) → x < most → slice_get kinds x ≡ Some true → suc room < most
@@ -196,8 +199,8 @@ module _ (c : Prices) (most : ℕ) (p : ProgramData) (g : ℕ) (locals : List Lo
       let s = S.Store (at_of e) (access_at p (ty e)) (temp (at_of e) room) (operand (part_of p locals e (value_code p locals e)) (suc room)) in
       let a = Parts.read_one c most labels p locals low (value_paid labels e) (suc room) s code tt (λ t. omega (arith, roomy, t)) (tt, tt)
       (let z = free in omega (arith, z)) h i n in
-      Grows.pay c most kinds labels (omega arith) (Grows.next c most kinds labels a
-      (Grows.one c most kinds labels (S.Inside room (at_of e) x offset) (code_of (part_of p locals e (value_code p locals e)) (suc room) (s ∷ code)) tt
+      Grows.pay c most kinds sizes labels (omega arith) (Grows.next c most kinds sizes labels a
+      (Grows.one c most kinds sizes labels (S.Inside room (at_of e) x offset) (code_of (part_of p locals e (value_code p locals e)) (suc room) (s ∷ code)) tt
       (omega (arith, b, roomy)) (open_room, is)))
 
   put_grows : (x offset : ℕ) (v : PartValue ℕ) (out : Out) → x < most → slice_get kinds x ≡ Some true → suc room < most
@@ -206,13 +209,13 @@ module _ (c : Prices) (most : ℕ) (p : ProgramData) (g : ℕ) (locals : List Lo
   put_grows x offset (T.value e) out b is h i n = made out.labels (store_grows (length out.labels) x offset e out.code b is h i n)
   put_grows x offset (T.record_of q) out b is h i n = made out.labels (record_grows (length out.labels) (named_root p locals q) x offset q out.code b is h i n)
   put_grows x offset (T.text bytes) out b is h i n =
-      pay (omega arith) (made out.labels (Grows.one c most kinds (length out.labels) (S.Text x offset (length out.texts)) out.code tt (omega (arith, b))
+      pay (omega arith) (made out.labels (Grows.one c most kinds sizes (length out.labels) (S.Text x offset (length out.texts)) out.code tt (omega (arith, b))
       (tt, is)))
 
   parts_grow : (x : ℕ) (all : List (T.Part ℕ)) (out : Out) → x < most → slice_get kinds x ≡ Some true → suc room < most
       → room + weight_of_parts temporaries all ≤ most → 0 < length out.code
       → Made (weight_of_parts (paid c) all) out.code out.labels (parts_code p g locals x all out).code (parts_code p g locals x all out).labels
-  parts_grow x [] out b is h i n = Outs.unmade c most kinds
+  parts_grow x [] out b is h i n = Outs.unmade c most kinds sizes
   parts_grow x (one ∷ more) out b is h i n =
       let a = parts_grow x more out b is h (omega (arith, i)) n in
       let l = a.longer in
@@ -221,7 +224,7 @@ module _ (c : Prices) (most : ℕ) (p : ProgramData) (g : ℕ) (locals : List Lo
   -- a local lies in a block or may be written, as it is declared
   abbrev Lies : Bool → ℕ → Type 0
   Lies true x = slice_get kinds x ≡ Some true
-  Lies false x = Grows.Open c most kinds x
+  Lies false x = Grows.Open c most kinds sizes x
 
   lies : (x : ℕ) (l : Local) → slice_get locals x ≡ Some l → Lies l.block x
   lies x l is = by_block l.block refl
@@ -239,28 +242,28 @@ module _ (c : Prices) (most : ℕ) (p : ProgramData) (g : ℕ) (locals : List Lo
   initial_grows x size true (T.parts all) out b is h n =
       let all_out = parts_code p g locals x all out in
       pay (omega arith) (next (parts_grow x all out b is (omega (arith, h)) (omega (arith, h)) n)
-      (made all_out.labels (Grows.one c most kinds (length all_out.labels) (S.Zeros x size) all_out.code tt (omega (arith, b)) (tt, is))))
+      (made all_out.labels (Grows.one c most kinds sizes (length all_out.labels) (S.Zeros x size) all_out.code tt (omega (arith, b)) (tt, is))))
   initial_grows x size false (T.whole e) out b is h n =
       made out.labels (Parts.named_grows c most (length out.labels) p locals low (weight temporaries e)
       (Nodes.value_grows c most (length out.labels) p locals low e)
       (at_of e) x (part_of p locals e (value_code p locals e)) room None out.code (b, is) tt free roomy (omega (arith, h)) n)
-  initial_grows x size false (T.whole_record q) out b is h n = pay (omega arith) (Outs.unmade c most kinds)
-  initial_grows x size false (T.parts all) out b is h n = pay (omega arith) (Outs.unmade c most kinds)
+  initial_grows x size false (T.whole_record q) out b is h n = pay (omega arith) (Outs.unmade c most kinds sizes)
+  initial_grows x size false (T.parts all) out b is h n = pay (omega arith) (Outs.unmade c most kinds sizes)
 
   declare_grows : (x : ℕ) (o : Option Local) → slice_get locals x ≡ o → (i : Option (Initializer ℕ)) (out : Out)
       → room + 2 + weight_of_initial temporaries i ≤ most → 0 < length out.code
       → Made (c.step + weight_of_initial (paid c) i) out.code out.labels (declare_code p g locals o x i out).code (declare_code p g locals o x i out).labels
-  declare_grows x None is i out h n = pay (omega arith) (Outs.unmade c most kinds)
+  declare_grows x None is i out h n = pay (omega arith) (Outs.unmade c most kinds sizes)
   declare_grows x (Some l) is None out h n = made out.labels (by_block l.block (lies x l is))
     where
       below : x < most
       below = Parts.local_below c most 0 p locals low x l is
 
       by_block : (b : Bool) → Lies b x → Adds (length out.labels) (c.step + 0) out.code ((if b then S.Forget x (size_at p l.ty) else S.Clear x) ∷ out.code)
-      by_block true lies_so = let b = below in Grows.pay c most kinds (length out.labels) (omega arith)
-          (Grows.one c most kinds (length out.labels) (S.Forget x (size_at p l.ty)) out.code tt (omega (arith, b)) (tt, lies_so))
-      by_block false lies_so = let b = below in Grows.pay c most kinds (length out.labels) (omega arith)
-          (Grows.one c most kinds (length out.labels) (S.Clear x) out.code tt (omega (arith, b)) (lies_so, tt))
+      by_block true lies_so = let b = below in Grows.pay c most kinds sizes (length out.labels) (omega arith)
+          (Grows.one c most kinds sizes (length out.labels) (S.Forget x (size_at p l.ty)) out.code tt (omega (arith, b)) (tt, lies_so))
+      by_block false lies_so = let b = below in Grows.pay c most kinds sizes (length out.labels) (omega arith)
+          (Grows.one c most kinds sizes (length out.labels) (S.Clear x) out.code tt (omega (arith, b)) (lies_so, tt))
   declare_grows x (Some l) is (Some i) out h n =
       initial_grows x (size_at p l.ty) l.block i out (Parts.local_below c most 0 p locals low x l is) (lies x l is) h n
 
@@ -285,12 +288,12 @@ module _ (c : Prices) (most : ℕ) (p : ProgramData) (g : ℕ) (locals : List Lo
 
   cases_grow : (labels : ℕ) (a : Operand) (start : Target) (cases : List ℕ) (code : Steps) → Leads (length code) labels start → top a ≤ most
       → Adds labels (weight_of_labels (paid c) cases) code (cases_code a start cases code)
-  cases_grow labels a start [] code leads t = Grows.same c most kinds labels
+  cases_grow labels a start [] code leads t = Grows.same c most kinds sizes labels
   cases_grow labels a start (v ∷ more) code leads t =
       let r = cases_grow labels a start more code leads t in
       let l = r.longer in
-      Grows.pay c most kinds labels (omega arith) (Grows.next c most kinds labels r
-      (Grows.one c most kinds labels (S.Case v a start) (cases_code a start more code) (leads_later start l (omega arith) leads) t (tt, tt)))
+      Grows.pay c most kinds sizes labels (omega arith) (Grows.next c most kinds sizes labels r
+      (Grows.one c most kinds sizes labels (S.Case v a start) (cases_code a start more code) (leads_later start l (omega arith) leads) t (tt, tt)))
 
   abbrev labels_of : Arms ℕ → ℕ
   labels_of T.no_arms = 0
@@ -298,12 +301,12 @@ module _ (c : Prices) (most : ℕ) (p : ProgramData) (g : ℕ) (locals : List Lo
 
   dispatch_grows : (labels : ℕ) (a : Operand) (arms : Arms ℕ) (starts : List Target) (code : Steps) → AllLead (length code) labels starts → top a ≤ most
       → Adds labels (labels_of arms) code (dispatch_code a arms starts code)
-  dispatch_grows labels a T.no_arms starts code e t = Grows.same c most kinds labels
-  dispatch_grows labels a (T.and_arm cases is_default all more) [] code e t = Grows.pay c most kinds labels (omega arith) (Grows.same c most kinds labels)
+  dispatch_grows labels a T.no_arms starts code e t = Grows.same c most kinds sizes labels
+  dispatch_grows labels a (T.and_arm cases is_default all more) [] code e t = Grows.pay c most kinds sizes labels (omega arith) (Grows.same c most kinds sizes labels)
   dispatch_grows labels a (T.and_arm cases is_default all more) (start ∷ starts) code e t =
       let r = dispatch_grows labels a more starts code e.1 t in
       let l = r.longer in
-      Grows.pay c most kinds labels (omega arith) (Grows.next c most kinds labels r
+      Grows.pay c most kinds sizes labels (omega arith) (Grows.next c most kinds sizes labels r
       (cases_grow labels a start cases (dispatch_code a more starts code)
       (leads_later start l (omega arith) e.0) t))
 
@@ -344,11 +347,11 @@ module _ (c : Prices) (most : ℕ) (p : ProgramData) (g : ℕ) (locals : List Lo
       let l = r.longer in
       let k = length all.out.labels in
       let to = default_start (here out) arms all.starts in
-      let j = Grows.one c most kinds k (S.Jump to) all.out.code (default_leads (length all.out.code) k (here out) arms all.starts (n, l) m.starts)
+      let j = Grows.one c most kinds sizes k (S.Jump to) all.out.code (default_leads (length all.out.code) k (here out) arms all.starts (n, l) m.starts)
       (omega arith) (tt, tt) in
       let d = dispatch_grows k a arms all.starts (S.Jump to ∷ all.out.code) (all_later (omega arith) (omega arith) all.starts m.starts) t in
       let i = in_all arms in
-      pay (omega (arith, i)) (next r (made all.out.labels (Grows.next c most kinds k j d)))
+      pay (omega (arith, i)) (next r (made all.out.labels (Grows.next c most kinds sizes k j d)))
 
   loop_grows : (test : Option (Expression ℕ)) (v : ℕ) (step : Option (Expression ℕ)) (enters : Target → Steps → Steps) (body : Statement ℕ)
       → StatementGrows body
@@ -359,27 +362,27 @@ module _ (c : Prices) (most : ℕ) (p : ProgramData) (g : ℕ) (locals : List Lo
       (λ x out. round p g locals (test_code p g locals test) (effect_if_any p g locals step) enters
       (λ b k out. statement_code p g locals body (in_loop b k x) out) out)
   loop_grows test v step enters body grow h i tests enter x out n e =
-      Outs.round_grows c most kinds p g locals roomy refl (test_code p g locals test) (effect_if_any p g locals step) enters
+      Outs.round_grows c most kinds sizes p g locals roomy refl refl (test_code p g locals test) (effect_if_any p g locals step) enters
       (λ b k out. statement_code p g locals body (in_loop b k x) out)
       v (weight_if_any (paid c) step) (price c body) tests (step_grows step i) enter out n
       (λ b k inner longer wider lead_b lead_k. grow h (in_loop b k x) inner (omega (arith, n, longer))
       (record { on_break = lead_b; on_continue = lead_k; on_return = return_later x.on_return longer wider e.on_return }))
 
   enter_by_test : (labels : ℕ) (to : Target) (code : Steps) → Leads (length code) labels to → Adds labels c.step code (enters_by_test p g locals to code)
-  enter_by_test labels to code leads = Grows.one c most kinds labels (S.Jump to) code leads (omega arith) (tt, tt)
+  enter_by_test labels to code leads = Grows.one c most kinds sizes labels (S.Jump to) code leads (omega arith) (tt, tt)
 
   enter_at_once : (labels : ℕ) (to : Target) (code : Steps) → Leads (length code) labels to → Adds labels c.step code (enters_at_once p g locals to code)
-  enter_at_once labels to code leads = Grows.pay c most kinds labels (omega arith) (Grows.same c most kinds labels)
+  enter_at_once labels to code leads = Grows.pay c most kinds sizes labels (omega arith) (Grows.same c most kinds sizes labels)
 
   after : (x : Exits) {paid : ℕ} {code whole : Steps} {labels wide : List ℕ} → Made paid code labels whole wide → ExitsLead (length code) (length labels) x
       → ExitsLead (length whole) (length wide) x
-  after x a e = exits_later x a.longer (Outs.wider c most kinds a) e
+  after x a e = exits_later x a.longer (Outs.wider c most kinds sizes a) e
 
   mutual
     pub statement_grows : (s : Statement ℕ) → StatementGrows s
     statement_grows (T.evaluate e) h x out n leads = made out.labels (effect_grows (length out.labels) e out.code (omega (arith, h)) n)
     statement_grows (T.block own all) h x out n leads =
-        Outs.scoped_grows c most kinds p g locals roomy refl own (price_of_all c all) (λ x out. statements_code p g locals all x out)
+        Outs.scoped_grows c most kinds sizes p g locals roomy refl refl own (price_of_all c all) (λ x out. statements_code p g locals all x out)
         (statements_grow all (omega (arith, h))) x out n leads
     statement_grows (T.declare k i) h x out n leads = declare_grows k (slice_get locals k) refl i out (omega (arith, h)) n
     statement_grows (T.when e one) h x out n leads =
@@ -392,7 +395,7 @@ module _ (c : Prices) (most : ℕ) (p : ProgramData) (g : ℕ) (locals : List Lo
         let rest = statement_code p g locals other x out in
         let a = statement_grows other (omega (arith, h)) x out n leads in
         let al = a.longer in
-        let b = made rest.labels (Grows.one c most kinds (length rest.labels) (S.Jump (here out)) rest.code (n, al) (omega arith) (tt, tt)) in
+        let b = made rest.labels (Grows.one c most kinds sizes (length rest.labels) (S.Jump (here out)) rest.code (n, al) (omega arith) (tt, tt)) in
         let both = next a b in
         let d = statement_grows one (omega (arith, h)) x (before (S.Jump (here out)) rest) (omega arith) (after x both leads) in
         let dl = d.longer in
@@ -407,7 +410,7 @@ module _ (c : Prices) (most : ℕ) (p : ProgramData) (g : ℕ) (locals : List Lo
         pay (omega arith) (loop_grows (Some e) (W c e) None (enters_at_once p g locals) body (statement_grows body) (omega (arith, h)) (omega (arith, roomy))
         (tests_grow e (omega (arith, h))) enter_at_once x out n leads)
     statement_grows (T.for own start test step body) h x out n leads =
-        pay (omega arith) (Outs.scoped_grows c most kinds p g locals roomy refl own
+        pay (omega arith) (Outs.scoped_grows c most kinds sizes p g locals roomy refl refl own
         (price_of_all c start + (3 * c.step + weight_if_any (paid c) test + weight_if_any (paid c) step + price c body))
         (λ x out. statements_code p g locals start x (with_loops (loops_in_all start)
         (round p g locals (test_code p g locals test) (effect_if_any p g locals step)
@@ -423,7 +426,7 @@ module _ (c : Prices) (most : ℕ) (p : ProgramData) (g : ℕ) (locals : List Lo
         (enters_by_test p g locals) (λ b k out. statement_code p g locals body (in_loop b k x) out) out)) (omega (arith, n, l)) (after x a leads))))
         x out n leads)
     statement_grows (T.switch e own arms) h x out n leads =
-        let a = Outs.scoped_grows c most kinds p g locals roomy refl own (c.step + price_of_arms c arms)
+        let a = Outs.scoped_grows c most kinds sizes p g locals roomy refl refl own (c.step + price_of_arms c arms)
         (λ x out. chosen_code (temp (at_of e) room) arms (here out) (arms_code p g locals arms (in_switch (here out) x) out))
         (chosen_grows (temp (at_of e) room) (omega (arith, roomy)) arms (arms_grow arms) (omega (arith, h))) (in_switch (here out) x) out n
         (record { on_break = (n, omega arith); on_continue = leads.on_continue; on_return = leads.on_return }) in
@@ -433,23 +436,23 @@ module _ (c : Prices) (most : ℕ) (p : ProgramData) (g : ℕ) (locals : List Lo
         (in_switch (here out) x) out in
         pay (omega arith) (next a (made inner.labels (number_grows (length inner.labels) e inner.code (omega (arith, h)) (omega (arith, n, l)))))
     statement_grows T.break h x out n leads =
-        made out.labels (Outs.exit_grows c most kinds p g locals roomy refl (length out.labels) x.on_break out.code leads.on_break)
+        made out.labels (Outs.exit_grows c most kinds sizes p g locals roomy refl refl (length out.labels) x.on_break out.code leads.on_break)
     statement_grows T.continue h x out n leads =
-        made out.labels (Outs.exit_grows c most kinds p g locals roomy refl
+        made out.labels (Outs.exit_grows c most kinds sizes p g locals roomy refl refl
         (length out.labels) x.on_continue out.code leads.on_continue)
     statement_grows (T.return e) h x out n leads =
         made out.labels (return_grows (length out.labels) e x.on_return out.code leads.on_return
         (omega (arith, h)) n)
 
     pub statements_grow : (all : Statements ℕ) → AllGrow all
-    statements_grow T.no_statements h x out n leads = Outs.unmade c most kinds
+    statements_grow T.no_statements h x out n leads = Outs.unmade c most kinds sizes
     statements_grow (T.and_statement s more) h x out n leads =
         let a = statements_grow more (omega (arith, h)) x out n leads in
         let l = a.longer in
         pay (omega arith) (next a (statement_grows s (omega (arith, h)) x (statements_code p g locals more x out) (omega (arith, n, l)) (after x a leads)))
 
     pub arms_grow : (arms : Arms ℕ) → ArmsGrow arms
-    arms_grow T.no_arms h x out n leads = record { made = Outs.unmade c most kinds; starts = tt }
+    arms_grow T.no_arms h x out n leads = record { made = Outs.unmade c most kinds sizes; starts = tt }
     arms_grow (T.and_arm cases is_default all more) h x out n leads =
         let r = arms_grow more (omega (arith, h)) x out n leads in
         let rest = arms_code p g locals more x out in
@@ -459,5 +462,5 @@ module _ (c : Prices) (most : ℕ) (p : ProgramData) (g : ℕ) (locals : List Lo
         let z = s.longer in
         record {
           made = pay (omega arith) (next a s);
-          starts = ((omega (arith, n, l, z), omega arith), all_later z (Outs.wider c most kinds s) rest.starts r.starts);
+          starts = ((omega (arith, n, l, z), omega arith), all_later z (Outs.wider c most kinds sizes s) rest.starts r.starts);
         }

@@ -8,11 +8,11 @@ use Rattle.c_meaning.specs.ExampleParts.{a_function, program, main, all}
 use Rattle.c_well_typed.specs.ProgramWeights.Counted.{Kind}
 use Rattle.c_well_typed.specs.ProgramWeights.Weights.{weight_of_function}
 use Rattle.lower_tac.specs.Statements.{lowered}
-use Rattle.tac_bounds.specs.Prices.{in_bytes, in_steps, paid, price_of_code}
+use Rattle.tac_bounds.specs.Prices.{in_bytes, in_steps, paid, price_of_routine}
 use Rattle.tac_ir.specs.Temporaries.{top_of_all}
 
 abbrev bytes : ProgramData → List ℕ
-bytes p = map (λ r. price_of_code in_bytes r.code) (lowered p).routines
+bytes p = map (price_of_routine in_bytes) (lowered p).routines
 
 abbrev weights : (Kind → ℕ) → ProgramData → List ℕ
 weights n p = map (weight_of_function n) p.functions
@@ -26,8 +26,8 @@ abbrev calling : ProgramData
 calling = program [] (a_function of_nothing [] [] (gives (binary B.Multiply (call 1 (number 2 ∷ [])) (number 3)))
     ∷ a_function of_int (named int ∷ []) [] (gives (binary B.Add (get int 0) (number 1))) ∷ [])
 
--- five steps with one argument, and three; each function is a step more
-calling_bytes : bytes calling ≡ (6 * 40 + 24) ∷ (4 * 40) ∷ []
+-- five steps, and three with a parameter; each function is a step more
+calling_bytes : bytes calling ≡ (6 * 44) ∷ (4 * 44 + 24) ∷ []
 calling_bytes = refl
 
 -- the arguments stand behind the locals, and so does the sum
@@ -40,7 +40,7 @@ abbrev looping : ProgramData
 looping = main (in_memory int ∷ []) [] (T.for (0 ∷ []) (all (T.declare 0 None ∷ [])) None None (T.block [] (all [])) ∷ [])
 
 -- the block begins, so does the body, two jumps, the declaration, four ends of the block with a jump each, the last return, and one for the function
-looping_steps : map (λ r. price_of_code in_steps r.code) (lowered looping).routines ≡ (1 + 1 + 2 + 1 + 8 + 1 + 1) ∷ []
+looping_steps : map (price_of_routine in_steps) (lowered looping).routines ≡ (1 + 1 + 2 + 1 + 8 + 1 + 1) ∷ []
 looping_steps = refl
 
 -- the loop, its declaration and its local pay for just what the loop has; the function and two blocks pay for more than they have

@@ -1,15 +1,18 @@
 -- The laws of lowered code.
-use Rattle.std.specs.Prelude.{◌≡◌, ◌≢◌, ℕ, ◌+◌, ◌*◌, ◌≤◌, List, [], ◌∷◌, length, All, Some, None, slice_get}
+use Rattle.std.specs.Prelude.{◌≡◌, ◌≢◌, ℕ, ◌+◌, ◌*◌, ◌≤◌, List, [], ◌∷◌, length, map, All, Some, None, slice_get}
 use Rattle.c_typed.specs.Programs.{FunctionData, ProgramData}
+use Rattle.c_meaning.specs.Program.{all_locals, size_at}
 use Rattle.tac_ir.specs.Code.{RoutineData}
+use Rattle.tac_ir.specs.declared.step.Step.{Step}
+use Rattle.tac_ir.specs.declared.step.Step.TheVariants as S
 use Rattle.lower_tac.specs.Statements.{lowered}
 use Rattle.c_well_typed.specs.ProgramWeights.Bounds.{IsProgramBounded}
 use Rattle.c_well_typed.specs.ProgramWeights.Counted.{code, frame}
 use Rattle.c_well_typed.specs.ProgramWeights.Weights.{weight_of_function, code_weight_of_program}
-use Rattle.c_well_typed.specs.WellTyped.{of_program, HaveTypedFunctions}
+use Rattle.c_well_typed.specs.WellTyped.{of_program, HasMain, HaveTypedFunctions}
 use Rattle.tac_ir.specs.Jumps.{JumpsWithin}
 use Rattle.tac_ir.specs.Kinds.{KindsWithin}
-use Rattle.tac_bounds.specs.Prices.{Prices, in_steps, AreBytes, paid, price_of_code, price_of_routines}
+use Rattle.tac_bounds.specs.Prices.{Prices, in_steps, AreBytes, paid, price_of_routine, price_of_routines}
 use Rattle.tac_bounds.specs.Scopes.{HasScopes}
 use Rattle.tac_ir.specs.Temporaries.{top_of_all}
 use Rattle.tac_bounds.specs.Temporaries.{temporaries}
@@ -28,6 +31,17 @@ JumpsStand = (p : ProgramData) → All JumpsWithin (lowered p).routines
 abbrev pub KindsStand : Type 0
 KindsStand = (p : ProgramData) → All KindsWithin (lowered p).routines
 
+-- each block begins with the size of its local
+abbrev pub sizes_of_locals : ProgramData → FunctionData → List ℕ
+sizes_of_locals p f = map (λ l. size_at p l.ty) (all_locals f)
+
+abbrev pub HasOwnSize : (sizes : List ℕ) → Step → Type 0
+HasOwnSize sizes (S.Begin x size) = slice_get sizes x ≡ Some size
+HasOwnSize sizes s = Unit {0}
+
+abbrev pub SizesStand : Type 0
+SizesStand = (p : ProgramData) (r : RoutineData) (f : FunctionData) → IsRoutineOf p r f → All (HasOwnSize (sizes_of_locals p f)) r.code
+
 -- a function has no more labels than steps
 abbrev pub HasFewLabels : RoutineData → Type 0
 HasFewLabels r = length r.labels ≤ length r.code
@@ -38,7 +52,7 @@ LabelsAreFew = (p : ProgramData) → All HasFewLabels (lowered p).routines
 -- what is in a function pays for its code, whatever the prices
 abbrev pub CodeIsPaid : Type 0
 CodeIsPaid = (p : ProgramData) (r : RoutineData) (f : FunctionData) → IsRoutineOf p r f → HasScopes f
-    → (c : Prices) → price_of_code c r.code ≤ weight_of_function (paid c) f
+    → (c : Prices) → price_of_routine c r ≤ weight_of_function (paid c) f
 
 -- so there are no more steps than it weighs where each costs one
 abbrev pub StepsAreFew : Type 0
@@ -48,11 +62,16 @@ StepsAreFew = (p : ProgramData) (r : RoutineData) (f : FunctionData) → IsRouti
 -- and in bytes the code is within the weight of the function, and of the program
 abbrev pub BytesAreWithin : Type 0
 BytesAreWithin = (p : ProgramData) (r : RoutineData) (f : FunctionData) → IsRoutineOf p r f → HasScopes f
-    → (c : Prices) → AreBytes c → price_of_code c r.code ≤ weight_of_function code f
+    → (c : Prices) → AreBytes c → price_of_routine c r ≤ weight_of_function code f
 
 abbrev pub ProgramsAreWithin : Type 0
 ProgramsAreWithin = (p : ProgramData) → All HasScopes p.functions
     → (c : Prices) → AreBytes c → price_of_routines c (lowered p).routines ≤ code_weight_of_program p
+
+-- where `main` is there, 512 bytes of that weight are left
+abbrev pub BytesAreLeft : Type 0
+BytesAreLeft = (p : ProgramData) → All HasScopes p.functions → HasMain p
+    → (c : Prices) → AreBytes c → price_of_routines c (lowered p).routines + 512 ≤ code_weight_of_program p
 
 -- how many steps there are in all
 abbrev pub steps_in : List RoutineData → ℕ

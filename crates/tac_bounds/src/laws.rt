@@ -1,6 +1,7 @@
 //! What holds of lowered code.
 
 ghost use Rattle.tac_bounds.specs.Laws.{BytesAreWithin, CodeIsPaid, FramesAreWithin, JumpsStand, KindsStand, LabelsAreFew, ProgramsAreWithin};
+ghost use Rattle.tac_bounds.specs.Laws.{BytesAreLeft, SizesStand};
 ghost use Rattle.tac_bounds.specs.Laws.{ProgramsHaveFewSteps, StepsAreFew, TemporariesAreFew, TypedHaveScopes};
 
 /// Each jump leads to a step of its function. The last step of a function with a body is a return, so something is left at each place to which a jump
@@ -12,6 +13,11 @@ pub fn jumps_stand()
 /// A step writes temporaries and locals that are kept by name, and no local that lies in a block; each block of which a step speaks is that of a local.
 pub fn kinds_stand()
     ensures { KindsStand }
+{}
+
+/// Each block begins with the size of its local.
+pub fn sizes_stand()
+    ensures { SizesStand }
 {}
 
 /// A function has no more labels than steps.
@@ -29,7 +35,7 @@ pub fn steps_are_few()
     ensures { StepsAreFew }
 {}
 
-/// At up to 48 bytes for a step, 96 for a wide one and 128 for an argument, the code of a function is within its weight in bytes.
+/// At up to 48 bytes for a step, 96 for a wide one, 128 for an argument and 256 for a parameter, the code of a function is within its weight in bytes.
 pub fn bytes_are_within()
     ensures { BytesAreWithin }
 {}
@@ -37,6 +43,11 @@ pub fn bytes_are_within()
 /// So is the code of a program.
 pub fn programs_are_within()
     ensures { ProgramsAreWithin }
+{}
+
+/// Where `main` is there, 512 bytes of the program's weight are left.
+pub fn bytes_are_left()
+    ensures { BytesAreLeft }
 {}
 
 /// A program within the bounds on nodes, as each program of files is, has at most 32 steps for three nodes.
