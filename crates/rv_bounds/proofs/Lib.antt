@@ -1,3 +1,6 @@
 mod Lengths
 mod Ranges
 mod Words
+mod Frames
+mod Texts
+mod Programs

@@ -1,6 +1,6 @@
 -- The laws, function by function.
 use Rattle.std.proofs.Common.{◌≡◌, ◌≢◌, ℕ, zero, suc, ◌+◌, ◌*◌, ◌<◌, ◌≤◌, Bool, true, false, List, [], ◌∷◌, ◌++◌, map, length, All, Option, Some, None, refl}
-use Rattle.std.proofs.Common.{sym, ap, ◌∙◌, subst, arith, slice_get}
+use Rattle.std.proofs.Common.{sym, ap, subst, arith, slice_get}
 use Rattle.c_typed.specs.declared.program.Local.{Local}
 use Rattle.c_typed.specs.Programs.{FunctionData, ProgramData}
 use Rattle.c_typed.specs.Trees.{Statement}
@@ -20,8 +20,8 @@ use Rattle.c_well_typed.specs.ProgramWeights.Counted as Kinds
 use Rattle.c_well_typed.specs.ProgramWeights.Weights.{weight_of_parameters, weight_of_body, weight_of_function, weight_of_functions}
 use Rattle.tac_ir.specs.Jumps.{IsInside, target_of, LeadsInsideIfAny, JumpsWithin}
 use Rattle.tac_ir.specs.Kinds.{KeepsKinds, KindsWithin}
-use Rattle.tac_bounds.specs.Laws.{IsRoutineOf, HasFewLabels, HasOwnSize, sizes_of_locals, SizesStand, BytesAreLeft, JumpsStand, KindsStand, LabelsAreFew, CodeIsPaid, StepsAreFew, BytesAreWithin, ProgramsAreWithin}
-use Rattle.tac_bounds.specs.Laws.{ProgramsHaveFewSteps, steps_in, TemporariesAreFew, FramesAreWithin}
+use Rattle.tac_bounds.specs.Laws.{HasFewLabels, HasOwnSize, sizes_of_locals, SizesStand, BytesAreLeft, JumpsStand, KindsStand, LabelsAreFew, CodeIsPaid, StepsAreFew, BytesAreWithin, ProgramsAreWithin}
+use Rattle.tac_bounds.specs.Laws.{ProgramsHaveFewSteps, steps_in, TemporariesAreFew, FramesAreWithin, FramesWeighLess}
 use Rattle.tac_bounds.specs.Prices.{Prices, in_steps, AreBytes, paid, price_of, price_of_all, price_of_code, price_of_parameters, price_of_routine, price_of_routines}
 use Rattle.tac_bounds.specs.Scopes.{HasScopes, IsScopedBody}
 use Rattle.tac_ir.specs.Temporaries.{top_of_all}
@@ -31,6 +31,7 @@ use Rattle.tac_bounds.proofs.Outs as Outs
 use Rattle.tac_bounds.proofs.Outs.{each, scope_price}
 use Rattle.tac_bounds.proofs.Statements as Statements
 use Rattle.tac_bounds.proofs.Statements.{price}
+use Rattle.tac_bounds.proofs.Routines.{some_same, is_of}
 use Rattle.tac_bounds.proofs.Scoped.{each_alike, statement_pays, locals_pay, parameters_pay}
 use Rattle.tac_bounds.proofs.Weights as Weights
 
@@ -47,9 +48,6 @@ so_many k (suc n) = let h = so_many (k + 1) n in omega (arith, h)
 both_lengths : {A : Type 0} (a b : List A) → length (a ++ b) ≡ length a + length b
 both_lengths [] b = omega arith
 both_lengths (x ∷ a) b = let h = both_lengths a b in omega (arith, h)
-
-some_same : {A : Type 0} {a b : A} → Some a ≡ Some b → a ≡ b
-some_same e = cc
 
 -- an entry that is there
 entry : (P : ℕ → Type 0) (all : List ℕ) (l : ℕ) → l < length all → Each P all → (k : ℕ) × (slice_get all l ≡ Some k) × P k
@@ -214,22 +212,6 @@ labels_are_few p = each_all HasFewLabels (routines_from p 0 p.functions) (from 0
     from : (g : ℕ) (all : List FunctionData) → Each HasFewLabels (routines_from p g all)
     from g [] = tt
     from g (f ∷ more) = (labels_of_function p g f f.body, from (suc g) more)
-
--- ---- the routine of a function
-
-record Is (p : ProgramData) (r : RoutineData) (f : FunctionData) : Type 0 where
-  at : ℕ
-  is : routine_of p f (code_if_any p at f f.body) ≡ r
-
-routine_is : (p : ProgramData) (r : RoutineData) (f : FunctionData) (k g : ℕ) (all : List FunctionData)
-    → slice_get (routines_from p k all) g ≡ Some r → slice_get all g ≡ Some f → Is p r f
-routine_is p r f k g [] e h = cc
-routine_is p r f k zero (one ∷ more) e h =
-    record { at = k; is = ap (λ (f : FunctionData). routine_of p f (code_if_any p k f f.body)) (sym (some_same h)) ∙ some_same e }
-routine_is p r f k (suc g) (one ∷ more) e h = routine_is p r f (suc k) g more e h
-
-is_of : (p : ProgramData) (r : RoutineData) (f : FunctionData) → IsRoutineOf p r f → Is p r f
-is_of p r f i = routine_is p r f 0 i.number p.functions i.routine i.function
 
 -- ---- sizes of blocks
 
@@ -533,3 +515,39 @@ frames_are_within p r f i scopes some =
     let a = frame_of_function f f.body scopes some in
     let b = one_more (λ (l : Local). l.block) (all_locals f) in
     subst (λ (r : RoutineData). 4 * (length r.locals + weight_of_function temporaries f) + 100 ≤ weight_of_function frame f) z.is (omega (arith, a, b))
+
+-- ---- frames against code
+
+less_than_code : (k : Kind) → 8 * frame k ≤ code k
+less_than_code Kinds.begins = omega arith
+less_than_code Kinds.through = omega arith
+less_than_code Kinds.to_field = omega arith
+less_than_code Kinds.to_element = omega arith
+less_than_code Kinds.constant = omega arith
+less_than_code Kinds.load = omega arith
+less_than_code Kinds.conversion = omega arith
+less_than_code Kinds.pointer_sum = omega arith
+less_than_code Kinds.operator = omega arith
+less_than_code Kinds.assignment = omega arith
+less_than_code Kinds.call = omega arith
+less_than_code Kinds.argument = omega arith
+less_than_code Kinds.part = omega arith
+less_than_code Kinds.statement = omega arith
+less_than_code Kinds.arm = omega arith
+less_than_code Kinds.label = omega arith
+less_than_code Kinds.definition = omega arith
+less_than_code Kinds.parameter = omega arith
+less_than_code Kinds.named_local = omega arith
+less_than_code Kinds.block_local = omega arith
+less_than_code Kinds.structure = omega arith
+less_than_code Kinds.field = omega arith
+
+frame_against_code : (f : FunctionData) (b : Option (Statement ℕ)) → 8 * weight_of_body frame f b ≤ weight_of_body code f b
+frame_against_code f None = omega arith
+frame_against_code f (Some body) =
+    let a = Weights.less_parameters 8 frame code less_than_code f.parameters in
+    let b = Weights.less_locals 8 frame code less_than_code f.locals in
+    let d = Weights.less_statement 8 frame code less_than_code 0 (omega arith) body in omega (arith, a, b, d)
+
+pub frames_weigh_less : FramesWeighLess
+frames_weigh_less f = frame_against_code f f.body

@@ -5,5 +5,6 @@ mod Outs
 mod Statements
 mod Scoped
 mod Weights
+pub mod Routines
 mod Functions
 mod Typed

@@ -92,6 +92,10 @@ abbrev pub FramesAreWithin : Type 0
 FramesAreWithin = (p : ProgramData) (r : RoutineData) (f : FunctionData) → IsRoutineOf p r f → HasScopes f → f.body ≢ None
     → 4 * (length r.locals + weight_of_function temporaries f) + 100 ≤ weight_of_function frame f
 
+-- there are eight bytes of a function's code for each byte of its frame
+abbrev pub FramesWeighLess : Type 0
+FramesWeighLess = (f : FunctionData) → 8 * weight_of_function frame f ≤ weight_of_function code f
+
 -- the locals of well typed functions stand in the scopes that declare them
 abbrev pub TypedHaveScopes : Type 0
 TypedHaveScopes = (p : ProgramData) → HaveTypedFunctions (of_program p) → All HasScopes p.functions

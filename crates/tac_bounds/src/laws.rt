@@ -1,7 +1,7 @@
 //! What holds of lowered code.
 
 ghost use Rattle.tac_bounds.specs.Laws.{BytesAreWithin, CodeIsPaid, FramesAreWithin, JumpsStand, KindsStand, LabelsAreFew, ProgramsAreWithin};
-ghost use Rattle.tac_bounds.specs.Laws.{BytesAreLeft, SizesStand};
+ghost use Rattle.tac_bounds.specs.Laws.{BytesAreLeft, SizesStand, FramesWeighLess};
 ghost use Rattle.tac_bounds.specs.Laws.{ProgramsHaveFewSteps, StepsAreFew, TemporariesAreFew, TypedHaveScopes};
 
 /// Each jump leads to a step of its function. The last step of a function with a body is a return, so something is left at each place to which a jump
@@ -63,6 +63,11 @@ pub fn temporaries_are_few()
 /// Four bytes for each temporary are within the weight of the function's frame, and 100 bytes of that weight are left.
 pub fn frames_are_within()
     ensures { FramesAreWithin }
+{}
+
+/// A function weighs eight bytes of code for each byte of its frame at least.
+pub fn frames_weigh_less()
+    ensures { FramesWeighLess }
 {}
 
 /// In the functions of a well typed program the locals stand in the scopes that declare them.

@@ -9,7 +9,7 @@
 mod laws;
 
 pub use laws::{
-    bytes_are_left, bytes_are_within, code_is_paid, frames_are_within, jumps_stand, kinds_stand,
-    labels_are_few, programs_are_within, programs_have_few_steps, sizes_stand, steps_are_few,
-    temporaries_are_few, typed_functions_have_scopes,
+    bytes_are_left, bytes_are_within, code_is_paid, frames_are_within, frames_weigh_less,
+    jumps_stand, kinds_stand, labels_are_few, programs_are_within, programs_have_few_steps,
+    sizes_stand, steps_are_few, temporaries_are_few, typed_functions_have_scopes,
 };
