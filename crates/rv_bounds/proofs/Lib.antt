@@ -1,5 +1,4 @@
 mod Lengths
-mod Ranges
 mod Words
 mod Frames
 mod Texts
