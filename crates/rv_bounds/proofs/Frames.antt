@@ -17,7 +17,8 @@ use Rattle.tac_ir.specs.declared.step.Step.TheVariants as S
 use Rattle.tac_bounds.specs.Temporaries.{temporaries}
 use Rattle.tac_bounds.specs.Laws.{IsRoutineOf, HasOwnSize, sizes_of_locals, SizesStand, TemporariesAreFew, FramesAreWithin}
 use Rattle.tac_bounds.proofs.Routines.{some_same, Is, is_of}
-use Rattle.rv_code.specs.Frames.{block_sizes, end_from, sizes_in, sizes_of_parameters, sizes_with, slot_at, slots, whole_words, with_size, written_by, written_in}
+use Rattle.rv_code.specs.Frames.{block_sizes, end_from, sizes_in, sizes_of_parameters, sizes_with, slot_at, slots, whole_words, with_size, written_by}
+use Rattle.rv_code.specs.Frames.{written_in}
 use Rattle.rv_bounds.specs.Laws.{FramesAreSmall, FramesAreWeighed}
 
 pub all_at : {A : Type 0} (P : A → Type 0) (all : List A) (k : ℕ) (x : A) → slice_get all k ≡ Some x → All P all → P x

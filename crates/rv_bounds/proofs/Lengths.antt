@@ -11,7 +11,8 @@ use Rattle.tac_ir.specs.declared.step.Operand.TheVariants as O
 use Rattle.tac_ir.specs.declared.step.Parameter.{Parameter}
 use Rattle.tac_ir.specs.declared.step.Step.{Step}
 use Rattle.tac_ir.specs.declared.step.Step.TheVariants as S
-use Rattle.rv_code.specs.Code.{step_code, steps_code, code_if_any, entry_code, parameters_code, function_code, get_code, get_if_any, both_code, give_code, row_code}
+use Rattle.rv_code.specs.Code.{step_code, steps_code, code_if_any, entry_code, parameters_code, function_code, get_code, get_if_any, both_code, give_code}
+use Rattle.rv_code.specs.Code.{row_code}
 use Rattle.rv_code.specs.Code.{a_word, block_code, place_led, parameter_code, stack_place}
 use Rattle.rv_code.specs.Words.{call_code, fetch_code, jump_code, keep_code, number_code, place_code}
 use Rattle.rv_code.specs.Frames.{block_places, frame_size}
@@ -111,7 +112,8 @@ module _ (p q : Places) (g : RoutineData) (blocks : List ℕ) (size : ℕ) (t u 
 
   pub entry_alike : (all : List Parameter) → length (entry_code l all) ≡ length (entry_code m all)
   entry_alike all =
-      behind (number_code 5 (stack_place + size)) (Bgeu 2 5 (pos 8) ∷ Ebreak ∷ (number_code 5 size ++ rest l)) (Bgeu 2 5 (pos 8) ∷ Ebreak ∷ (number_code 5 size ++ rest m))
+      behind (number_code 5 (stack_place + size)) (Bgeu 2 5 (pos 8) ∷ Ebreak ∷ (number_code 5 size ++ rest l))
+      (Bgeu 2 5 (pos 8) ∷ Ebreak ∷ (number_code 5 size ++ rest m))
       (ap (λ n. suc (suc n)) (behind (number_code 5 size) (rest l) (rest m)
       (ap suc (behind (keep_code a_word 1 2 0) (parameters_code l 0 all) (parameters_code m 0 all) (parameters_alike 0 all)))))
     where
@@ -120,16 +122,16 @@ module _ (p q : Places) (g : RoutineData) (blocks : List ℕ) (size : ℕ) (t u 
 
 pub steps_are_as_long : StepsAreAsLong
 steps_are_as_long p q g l m same s =
-    subst (λ size. length (step_code p g l s) ≡ length (step_code q g (record { blocks = m.blocks; size = size; texts = m.texts; behind = m.behind; end = m.end }) s))
-    same.1
+    subst (λ size. length (step_code p g l s)
+    ≡ length (step_code q g (record { blocks = m.blocks; size = size; texts = m.texts; behind = m.behind; end = m.end }) s)) same.1
     (subst (λ blocks. length (step_code p g l s)
     ≡ length (step_code q g (record { blocks = blocks; size = l.size; texts = m.texts; behind = m.behind; end = m.end }) s)) same.0
     (step_alike p q g l.blocks l.size l.texts m.texts l.behind m.behind l.end m.end s))
 
 pub entries_are_as_long : EntriesAreAsLong
 entries_are_as_long l m same all =
-    subst (λ size. length (entry_code l all) ≡ length (entry_code (record { blocks = m.blocks; size = size; texts = m.texts; behind = m.behind; end = m.end }) all))
-    same.1
+    subst (λ size. length (entry_code l all)
+    ≡ length (entry_code (record { blocks = m.blocks; size = size; texts = m.texts; behind = m.behind; end = m.end }) all)) same.1
     (subst (λ blocks. length (entry_code l all)
     ≡ length (entry_code (record { blocks = blocks; size = l.size; texts = m.texts; behind = m.behind; end = m.end }) all)) same.0
     (entry_alike no_places no_places empty l.blocks l.size l.texts m.texts l.behind m.behind l.end m.end all))

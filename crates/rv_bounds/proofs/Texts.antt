@@ -11,7 +11,8 @@ use Rattle.c_link.specs.Texts.{text_bytes, texts_in_parts, texts_in_initial, tex
 use Rattle.lower_tac.specs.Parts.{Steps, temp}
 use Rattle.lower_tac.specs.declared.ways.Exits.{Exits}
 use Rattle.lower_tac.specs.Statements.{Out, before, here, with_loops, in_loop, in_switch, chosen_code}
-use Rattle.lower_tac.specs.Statements.{have_blocks, scope_code, scoped_code, put_code, parts_code, initial_code, declare_code, round, test_code, effect_if_any}
+use Rattle.lower_tac.specs.Statements.{have_blocks, scope_code, scoped_code, put_code, parts_code, initial_code, declare_code, round, test_code}
+use Rattle.lower_tac.specs.Statements.{effect_if_any}
 use Rattle.lower_tac.specs.Statements.{enters_by_test, enters_at_once, statement_code, statements_code, arms_code, room}
 use Rattle.lower_tac.specs.Statements.{function_exits, last_code, parameters_of, code_if_any, routines_from}
 use Rattle.tac_ir.specs.declared.step.Step.TheVariants as S
@@ -88,11 +89,11 @@ module _ (p : ProgramData) (g : ℕ) (locals : List Local) where
         let a = statement_adds other x out in
         let b = statement_adds one x (before (S.Jump (here out)) (statement_code p g locals other x out)) in omega (arith, a, b)
     statement_adds (T.while e body) x out =
-        round_adds (test_code p g locals (Some e)) (λ code. code) (enters_by_test p g locals) (λ b k out. statement_code p g locals body (in_loop b k x) out) (texts_in body)
-        (λ b k out. statement_adds body (in_loop b k x) out) out
+        round_adds (test_code p g locals (Some e)) (λ code. code) (enters_by_test p g locals)
+        (λ b k out. statement_code p g locals body (in_loop b k x) out) (texts_in body) (λ b k out. statement_adds body (in_loop b k x) out) out
     statement_adds (T.do_while body e) x out =
-        round_adds (test_code p g locals (Some e)) (λ code. code) (enters_at_once p g locals) (λ b k out. statement_code p g locals body (in_loop b k x) out) (texts_in body)
-        (λ b k out. statement_adds body (in_loop b k x) out) out
+        round_adds (test_code p g locals (Some e)) (λ code. code) (enters_at_once p g locals)
+        (λ b k out. statement_code p g locals body (in_loop b k x) out) (texts_in body) (λ b k out. statement_adds body (in_loop b k x) out) out
     statement_adds (T.for own start test step body) x out =
         scoped_adds own (texts_in_all start + texts_in body)
         (λ x out. statements_code p g locals start x (with_loops (loops_in_all start)

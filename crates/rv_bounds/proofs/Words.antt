@@ -27,9 +27,11 @@ use Rattle.tac_ir.specs.declared.step.Sort.TheVariants as Sorts
 use Rattle.tac_ir.specs.declared.step.Step.{Step}
 use Rattle.tac_ir.specs.declared.step.Step.TheVariants as S
 use Rattle.rv_code.specs.Code.{step_code, entry_code, parameter_code, parameters_code, get_code, get_if_any, both_code, temporary_code, is_block}
-use Rattle.rv_code.specs.Code.{give_code, one_code, two_code, three_code, answer_code, library_code, allocate_code, update_code, row_code, block_code, return_code, write_code, read_code, stack_place, a_word, place_led}
+use Rattle.rv_code.specs.Code.{give_code, one_code, two_code, three_code, answer_code, library_code, allocate_code, update_code}
+use Rattle.rv_code.specs.Code.{return_code, write_code, read_code, stack_place, a_word, place_led}
 use Rattle.rv_code.specs.Frames.{slot_at}
-use Rattle.rv_code.specs.Operators.{unary_code, convert_code, binary_code, compare_code, skip_unless, skip_unless_true, scale_code, pointer_code, move_code, offset_code, distance_code}
+use Rattle.rv_code.specs.Operators.{unary_code, convert_code, binary_code, compare_code, skip_unless, skip_unless_true, scale_code, pointer_code}
+use Rattle.rv_code.specs.Operators.{move_code, offset_code, distance_code}
 use Rattle.rv_code.specs.Programs.{no_places, frame_alone, words_of, words_of_all}
 use Rattle.rv_code.specs.Words.{upper, lower, number_code, place_code, load_by, store_by, fetch_code, keep_code, address_code, jump_code, call_code}
 use Rattle.rv_code.specs.declared.layout.Layout.{Layout}
@@ -220,39 +222,75 @@ module _ (p : Places) (g : RoutineData) (l : Layout) where
 
   -- four bytes a word
   step_few : (s : Step) → 4 * length (step_code p g l s) ≤ price_of in_bytes s
-  step_few (S.Set t a) = let h = sum (get_code p g l 5 a) (give_code t 5) 3 3 (get_few 5 a) (give_few t 5) in omega (arith, h)
+  step_few (S.Set t a) = let h = sum _ _ 3 3 (get_few 5 a) (give_few t 5) in omega (arith, h)
   step_few (S.Clear t) = omega arith
-  step_few (S.Unary t at op a) = let h = sum (get_code p g l 5 a) (unary_code op ++ (give_code t 5)) 3 4 (get_few 5 a) (sum (unary_code op) (give_code t 5) 1 3 (unary_few op) (give_few t 5)) in omega (arith, h)
-  step_few (S.Not t a) = let h = sum (get_code p g l 5 a) (Sltiu 5 5 (pos 1) ∷ (give_code t 5)) 3 4 (get_few 5 a) (one_more (Sltiu 5 5 (pos 1)) (give_code t 5) 3 (give_few t 5)) in omega (arith, h)
-  step_few (S.Convert t at kind a) = let h = sum (get_code p g l 5 a) (convert_code kind ++ (give_code t 5)) 3 5 (get_few 5 a) (sum (convert_code kind) (give_code t 5) 2 3 (convert_few kind) (give_few t 5)) in omega (arith, h)
-  step_few (S.AsPointer t at a) = let h = sum (get_code p g l 5 a) (give_code t 5) 3 3 (get_few 5 a) (give_few t 5) in omega (arith, h)
-  step_few (S.Number t at a) = let h = sum (get_code p g l 5 a) (give_code t 5) 3 3 (get_few 5 a) (give_few t 5) in omega (arith, h)
-  step_few (S.Binary t at op kind right a b) = let h = sum (both_code p g l a b) (binary_code op kind ∷ (give_code t 5)) 6 4 (both_few a b) (one_more (binary_code op kind) (give_code t 5) 3 (give_few t 5)) in omega (arith, h)
-  step_few (S.Compare t at op kind a b) = let h = sum (both_code p g l a b) (compare_code op kind ++ (give_code t 5)) 6 5 (both_few a b) (sum (compare_code op kind) (give_code t 5) 2 3 (compare_few op kind) (give_few t 5)) in omega (arith, h)
-  step_few (S.Move t at op size left kind a b) = let h = sum (if left then both_code p g l a b else both_code p g l b a) (move_code op size ++ (give_code t 5)) 6 7 (either_few left (both_code p g l a b) (both_code p g l b a) 6 (both_few a b) (both_few b a)) (sum (move_code op size) (give_code t 5) 4 3 (move_few op size) (give_few t 5)) in omega (arith, h)
-  step_few (S.Distance t at size a b) = let h = sum (both_code p g l a b) (distance_code size ++ (give_code t 5)) 6 7 (both_few a b) (sum (distance_code size) (give_code t 5) 4 3 (distance_few size) (give_few t 5)) in omega (arith, h)
-  step_few (S.Update t at op size sort right a b) = let h = sum (both_code p g l a b) (update_code op size sort right ++ (give_code t 5)) 6 8 (both_few a b) (sum (update_code op size sort right) (give_code t 5) 5 3 (update_few op size sort right) (give_few t 5)) in omega (arith, h)
-  step_few (S.Field t at by a) = let h = sum (get_code p g l 5 a) (offset_code by ++ (give_code t 5)) 3 6 (get_few 5 a) (sum (offset_code by) (give_code t 5) 3 3 (offset_few by) (give_few t 5)) in omega (arith, h)
-  step_few (S.ElementField t at size kind by a b) = let h = sum (both_code p g l a b) (scale_code size ++ (Add 5 5 6 ∷ (offset_code by ++ (give_code t 5)))) 6 10 (both_few a b) (sum (scale_code size) (Add 5 5 6 ∷ (offset_code by ++ (give_code t 5))) 3 7 (scale_few size) (one_more (Add 5 5 6) (offset_code by ++ (give_code t 5)) 6 (sum (offset_code by) (give_code t 5) 3 3 (offset_few by) (give_few t 5)))) in omega (arith, h)
-  step_few (S.Element t at n size addressed kind a b) = let h = sum (both_code p g l a b) (scale_code size ++ (Add 5 5 6 ∷ (give_code t 5))) 6 7 (both_few a b) (sum (scale_code size) (Add 5 5 6 ∷ (give_code t 5)) 3 4 (scale_few size) (one_more (Add 5 5 6) (give_code t 5) 3 (give_few t 5))) in omega (arith, h)
-  step_few (S.Part t at by a) = let h = sum (get_code p g l 5 a) (offset_code by ++ (give_code t 5)) 3 6 (get_few 5 a) (sum (offset_code by) (give_code t 5) 3 3 (offset_few by) (give_few t 5)) in omega (arith, h)
-  step_few (S.Inside t at x by) = let h = sum (block_code l 5 x by) (give_code t 5) 3 3 (address_few 5 2 (slice_index l.blocks x + by)) (give_few t 5) in omega (arith, h)
-  step_few (S.Load t at access a) = let h = sum (get_code p g l 5 a) (load_by access 5 5 (pos 0) ∷ (give_code t 5)) 3 4 (get_few 5 a) (one_more (load_by access 5 5 (pos 0)) (give_code t 5) 3 (give_few t 5)) in omega (arith, h)
-  step_few (S.Store at access a b) = let h = sum (both_code p g l a b) (store_by access 5 6 (pos 0) ∷ []) 6 1 (both_few a b) (one_more (store_by access 5 6 (pos 0)) [] 0 none_few) in omega (arith, h)
-  step_few (S.CopyRecord at size a b) = let h = sum (get_code p g l 10 a) (get_code p g l 11 b ++ (number_code 12 size ++ (call_code copy_entry))) 3 7 (get_few 10 a) (sum (get_code p g l 11 b) (number_code 12 size ++ (call_code copy_entry)) 3 4 (get_few 11 b) (sum (number_code 12 size) (call_code copy_entry) 2 2 (number_few 12 size) (call_few copy_entry))) in omega (arith, h)
+  step_few (S.Unary t at op a) = let h = sum _ _ 3 4 (get_few 5 a) (sum _ _ 1 3 (unary_few op) (give_few t 5)) in omega (arith, h)
+  step_few (S.Not t a) =
+      let h = sum _ (Sltiu 5 5 (pos 1) ∷ give_code t 5) 3 4 (get_few 5 a) (one_more (Sltiu 5 5 (pos 1)) _ 3 (give_few t 5)) in omega (arith, h)
+  step_few (S.Convert t at kind a) = let h = sum _ _ 3 5 (get_few 5 a) (sum _ _ 2 3 (convert_few kind) (give_few t 5)) in omega (arith, h)
+  step_few (S.AsPointer t at a) = let h = sum _ _ 3 3 (get_few 5 a) (give_few t 5) in omega (arith, h)
+  step_few (S.Number t at a) = let h = sum _ _ 3 3 (get_few 5 a) (give_few t 5) in omega (arith, h)
+  step_few (S.Binary t at op kind right a b) =
+      let h = sum _ (binary_code op kind ∷ give_code t 5) 6 4 (both_few a b) (one_more (binary_code op kind) _ 3 (give_few t 5)) in omega (arith, h)
+  step_few (S.Compare t at op kind a b) = let h = sum _ _ 6 5 (both_few a b) (sum _ _ 2 3 (compare_few op kind) (give_few t 5)) in omega (arith, h)
+  step_few (S.Move t at op size left kind a b) =
+      let h = sum _ _ 6 7 (either_few left (both_code p g l a b) (both_code p g l b a) 6 (both_few a b) (both_few b a))
+      (sum _ _ 4 3 (move_few op size) (give_few t 5)) in omega (arith, h)
+  step_few (S.Distance t at size a b) =
+      let h = sum _ (distance_code size ++ give_code t 5) 6 7 (both_few a b)
+      (sum (distance_code size) (give_code t 5) 4 3 (distance_few size) (give_few t 5)) in omega (arith, h)
+  step_few (S.Update t at op size sort right a b) =
+      let h = sum _ _ 6 8 (both_few a b) (sum _ _ 5 3 (update_few op size sort right) (give_few t 5)) in omega (arith, h)
+  step_few (S.Field t at by a) = let h = sum _ _ 3 6 (get_few 5 a) (sum _ _ 3 3 (offset_few by) (give_few t 5)) in omega (arith, h)
+  step_few (S.ElementField t at size kind by a b) =
+      let h = sum _ _ 6 10 (both_few a b) (sum _ (Add 5 5 6 ∷ (offset_code by ++ give_code t 5)) 3 7 (scale_few size) (one_more (Add 5 5 6) _ 6
+      (sum _ _ 3 3 (offset_few by) (give_few t 5)))) in omega (arith, h)
+  step_few (S.Element t at n size addressed kind a b) =
+      let h = sum _ _ 6 7 (both_few a b)
+      (sum _ (Add 5 5 6 ∷ give_code t 5) 3 4 (scale_few size) (one_more (Add 5 5 6) _ 3 (give_few t 5))) in omega (arith, h)
+  step_few (S.Part t at by a) = let h = sum _ _ 3 6 (get_few 5 a) (sum _ _ 3 3 (offset_few by) (give_few t 5)) in omega (arith, h)
+  step_few (S.Inside t at x by) = let h = sum _ _ 3 3 (address_few 5 2 (slice_index l.blocks x + by)) (give_few t 5) in omega (arith, h)
+  step_few (S.Load t at access a) =
+      let h = sum _ (load_by access 5 5 (pos 0) ∷ give_code t 5) 3 4 (get_few 5 a)
+      (one_more (load_by access 5 5 (pos 0)) _ 3 (give_few t 5)) in omega (arith, h)
+  step_few (S.Store at access a b) =
+      let h = sum _ (store_by access 5 6 (pos 0) ∷ []) 6 1 (both_few a b) (one_more (store_by access 5 6 (pos 0)) [] 0 none_few) in omega (arith, h)
+  step_few (S.CopyRecord at size a b) =
+      let h = sum _ _ 3 7 (get_few 10 a) (sum _ _ 3 4 (get_few 11 b)
+      (sum _ (call_code copy_entry) 2 2 (number_few 12 size) (call_few copy_entry))) in omega (arith, h)
   step_few (S.Jump to) = let h = jump_few (place_led g l to) in omega (arith, h)
-  step_few (S.Branch when a to) = let h = sum (get_code p g l 5 a) (skip_unless_true when ∷ (jump_code (place_led g l to))) 3 3 (get_few 5 a) (one_more (skip_unless_true when) (jump_code (place_led g l to)) 2 (jump_few (place_led g l to))) in omega (arith, h)
-  step_few (S.Test at op kind when a b to) = let h = sum (both_code p g l a b) (skip_unless when op kind ∷ (jump_code (place_led g l to))) 6 3 (both_few a b) (one_more (skip_unless when op kind) (jump_code (place_led g l to)) 2 (jump_few (place_led g l to))) in omega (arith, h)
-  step_few (S.Case n a to) = let h = sum (get_code p g l 5 a) (number_code 6 n ++ (Bne 5 6 (pos 12) ∷ (jump_code (place_led g l to)))) 3 5 (get_few 5 a) (sum (number_code 6 n) (Bne 5 6 (pos 12) ∷ (jump_code (place_led g l to))) 2 3 (number_few 6 n) (one_more (Bne 5 6 (pos 12)) (jump_code (place_led g l to)) 2 (jump_few (place_led g l to)))) in omega (arith, h)
-  step_few (S.Call t at f all) = let h = sum (row_code all) (call_code (slice_index p.entries f) ++ (give_code t 10)) 3 5 (address_few 10 2 (slot_at all.first)) (sum (call_code (slice_index p.entries f)) (give_code t 10) 2 3 (call_few (slice_index p.entries f)) (give_few t 10)) in omega (arith, h)
-  step_few (S.CallThrough t at ty a all) = let h = sum (get_code p g l 5 a) (row_code all ++ (Jalr 1 5 (pos 0) ∷ (give_code t 10))) 3 7 (get_few 5 a) (sum (row_code all) (Jalr 1 5 (pos 0) ∷ (give_code t 10)) 3 4 (address_few 10 2 (slot_at all.first)) (one_more (Jalr 1 5 (pos 0)) (give_code t 10) 3 (give_few t 10))) in omega (arith, h)
+  step_few (S.Branch when a to) =
+      let h = sum _ (skip_unless_true when ∷ jump_code (place_led g l to)) 3 3 (get_few 5 a)
+      (one_more (skip_unless_true when) (jump_code (place_led g l to)) 2 (jump_few (place_led g l to))) in omega (arith, h)
+  step_few (S.Test at op kind when a b to) =
+      let h = sum _ (skip_unless when op kind ∷ jump_code (place_led g l to)) 6 3 (both_few a b)
+      (one_more (skip_unless when op kind) (jump_code (place_led g l to)) 2 (jump_few (place_led g l to))) in omega (arith, h)
+  step_few (S.Case n a to) =
+      let h = sum _ _ 3 5 (get_few 5 a)
+      (sum _ (Bne 5 6 (pos 12) ∷ jump_code (place_led g l to)) 2 3 (number_few 6 n)
+      (one_more (Bne 5 6 (pos 12)) (jump_code (place_led g l to)) 2 (jump_few (place_led g l to)))) in omega (arith, h)
+  step_few (S.Call t at f all) =
+      let h = sum _ (call_code (slice_index p.entries f) ++ give_code t 10) 3 5 (address_few 10 2 (slot_at all.first))
+      (sum (call_code (slice_index p.entries f)) (give_code t 10) 2 3 (call_few (slice_index p.entries f)) (give_few t 10)) in omega (arith, h)
+  step_few (S.CallThrough t at ty a all) =
+      let h = sum _ _ 3 7 (get_few 5 a)
+      (sum _ (Jalr 1 5 (pos 0) ∷ give_code t 10) 3 4 (address_few 10 2 (slot_at all.first))
+      (one_more (Jalr 1 5 (pos 0)) _ 3 (give_few t 10))) in omega (arith, h)
   step_few (S.Library t at which all) = let h = library_few which all.first t in omega (arith, h)
-  step_few (S.Allocate t at r size zeroed a) = let h = sum (get_code p g l 10 a) (allocate_code size zeroed ++ (give_code t 10)) 3 8 (get_few 10 a) (sum (allocate_code size zeroed) (give_code t 10) 5 3 (allocate_few size zeroed) (give_few t 10)) in omega (arith, h)
+  step_few (S.Allocate t at r size zeroed a) =
+      let h = sum _ _ 3 8 (get_few 10 a) (sum _ _ 5 3 (allocate_few size zeroed) (give_few t 10)) in omega (arith, h)
   step_few (S.Begin x size) = omega arith
   step_few (S.End x) = omega arith
   step_few (S.Forget x size) = omega arith
-  step_few (S.Zeros x size) = let h = sum (block_code l 10 x 0) (Addi 11 0 (pos 0) ∷ (number_code 12 size ++ (call_code fill_entry))) 3 5 (address_few 10 2 (slice_index l.blocks x + 0)) (one_more (Addi 11 0 (pos 0)) (number_code 12 size ++ (call_code fill_entry)) 4 (sum (number_code 12 size) (call_code fill_entry) 2 2 (number_few 12 size) (call_few fill_entry))) in omega (arith, h)
-  step_few (S.Text x by n) = let h = sum (block_code l 10 x by) (place_code 11 (slice_index l.texts n) ++ (number_code 12 (length (get_or g.texts n [])) ++ (call_code copy_entry))) 3 6 (address_few 10 2 (slice_index l.blocks x + by)) (sum (place_code 11 (slice_index l.texts n)) (number_code 12 (length (get_or g.texts n [])) ++ (call_code copy_entry)) 2 4 (place_few 11 (slice_index l.texts n)) (sum (number_code 12 (length (get_or g.texts n []))) (call_code copy_entry) 2 2 (number_few 12 (length (get_or g.texts n []))) (call_few copy_entry))) in omega (arith, h)
+  step_few (S.Zeros x size) =
+      let h = sum _ (Addi 11 0 (pos 0) ∷ (number_code 12 size ++ call_code fill_entry)) 3 5 (address_few 10 2 (slice_index l.blocks x + 0))
+      (one_more (Addi 11 0 (pos 0)) _ 4 (sum _ (call_code fill_entry) 2 2 (number_few 12 size) (call_few fill_entry))) in omega (arith, h)
+  step_few (S.Text x by n) =
+      let h = sum _ (place_code 11 (slice_index l.texts n) ++ (number_code 12 (length (get_or g.texts n [])) ++ call_code copy_entry)) 3 6
+      (address_few 10 2 (slice_index l.blocks x + by))
+      (sum (place_code 11 (slice_index l.texts n)) (number_code 12 (length (get_or g.texts n [])) ++ call_code copy_entry) 2 4
+      (place_few 11 (slice_index l.texts n))
+      (sum _ (call_code copy_entry) 2 2 (number_few 12 (length (get_or g.texts n []))) (call_few copy_entry))) in omega (arith, h)
   step_few (S.Began f n) = omega arith
   step_few (S.Return a) = let h = sum (get_if_any p g l a) (return_code l) 3 7 (any_few a) (return_few l) in omega (arith, h)
   step_few (S.ReturnHeld t) = let h = sum (temporary_code g l 10 t) (return_code l) 3 7 (temporary_few 10 t) (return_few l) in omega (arith, h)

@@ -67,7 +67,7 @@ CodeIsWithin = (p : ProgramData) → All HasScopes p.functions → HasMain p →
 
 -- ---- frames
 
--- four bytes for each byte of a local that has a block, beside what the weight of a frame has for temporaries
+-- the words for temporaries are within the weight of the frame, and blocks take at most four bytes for each byte of the locals
 abbrev pub FramesAreSmall : Type 0
 FramesAreSmall = (p : ProgramData) (r : RoutineData) (f : FunctionData) → IsRoutineOf p r f → HasScopes f → f.body ≢ None
     → frame_size r + 80 ≤ weight_of_function frame f + 4 * size_of_locals p (all_locals f)

@@ -13,16 +13,19 @@ use Rattle.tac_ir.specs.declared.step.Step.TheVariants as S
 use Rattle.tac_ir.specs.declared.step.Target.{Target}
 use Rattle.tac_ir.specs.declared.step.Target.TheVariants as To
 use Rattle.lower_tac.specs.Parts.{Steps}
-use Rattle.lower_tac.specs.Statements.{Out, statement_code, have_blocks, function_exits, last_code, parameters_of, parameter_of, body_code, routine_of, code_if_any}
+use Rattle.lower_tac.specs.Statements.{Out, statement_code, have_blocks, function_exits, last_code, parameters_of, parameter_of, body_code, routine_of}
+use Rattle.lower_tac.specs.Statements.{code_if_any}
 use Rattle.lower_tac.specs.Statements.{routines_from, lowered}
 use Rattle.c_well_typed.specs.ProgramWeights.Counted.{Kind, statement, code, frame, definition}
 use Rattle.c_well_typed.specs.ProgramWeights.Counted as Kinds
 use Rattle.c_well_typed.specs.ProgramWeights.Weights.{weight_of_parameters, weight_of_body, weight_of_function, weight_of_functions}
 use Rattle.tac_ir.specs.Jumps.{IsInside, target_of, LeadsInsideIfAny, JumpsWithin}
 use Rattle.tac_ir.specs.Kinds.{KeepsKinds, KindsWithin}
-use Rattle.tac_bounds.specs.Laws.{HasFewLabels, HasOwnSize, sizes_of_locals, SizesStand, BytesAreLeft, JumpsStand, KindsStand, LabelsAreFew, CodeIsPaid, StepsAreFew, BytesAreWithin, ProgramsAreWithin}
+use Rattle.tac_bounds.specs.Laws.{HasFewLabels, HasOwnSize, sizes_of_locals, SizesStand, BytesAreLeft, JumpsStand, KindsStand, LabelsAreFew, CodeIsPaid}
+use Rattle.tac_bounds.specs.Laws.{StepsAreFew, BytesAreWithin, ProgramsAreWithin}
 use Rattle.tac_bounds.specs.Laws.{ProgramsHaveFewSteps, steps_in, TemporariesAreFew, FramesAreWithin, FramesWeighLess}
-use Rattle.tac_bounds.specs.Prices.{Prices, in_steps, AreBytes, paid, price_of, price_of_all, price_of_code, price_of_parameters, price_of_routine, price_of_routines}
+use Rattle.tac_bounds.specs.Prices.{Prices, in_steps, AreBytes, paid, price_of, price_of_all, price_of_code, price_of_parameters, price_of_routine}
+use Rattle.tac_bounds.specs.Prices.{price_of_routines}
 use Rattle.tac_bounds.specs.Scopes.{HasScopes, IsScopedBody}
 use Rattle.tac_ir.specs.Temporaries.{top_of_all}
 use Rattle.tac_bounds.specs.Temporaries.{temporaries}
