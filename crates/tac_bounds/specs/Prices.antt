@@ -13,7 +13,7 @@ pub record Prices : Type 0 where
   pub argument : ℕ
   pub parameter : ℕ
 
--- in bytes of code, and in steps
+-- in bytes of code, where a step takes at most 11 words, a wide one 16 and a parameter six, and in steps
 abbrev pub in_bytes : Prices
 in_bytes = record { step = 44; wide = 64; argument = 0; parameter = 24 }
 
