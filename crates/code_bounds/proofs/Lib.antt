@@ -1,0 +1,15 @@
+mod Grows
+mod Expressions
+mod Nodes
+mod Outs
+mod Statements
+mod Scoped
+mod Weights
+pub mod Routines
+mod Functions
+mod Typed
+mod Lengths
+mod Words
+mod Frames
+mod Texts
+mod Programs

@@ -1,5 +1,0 @@
-mod Lengths
-mod Words
-mod Frames
-mod Texts
-mod Programs

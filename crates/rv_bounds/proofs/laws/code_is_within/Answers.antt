@@ -1,5 +1,0 @@
-use Rattle.rv_bounds.proofs.Programs.{code_is_within}
-use Rattle.rv_bounds.proofs.laws.code_is_within.Goals as goal
-
-pub returns : goal.returns
-returns c = code_is_within c.functions_are_paid.ensures c.bytes_are_left.ensures

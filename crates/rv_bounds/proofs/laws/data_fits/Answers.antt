@@ -1,5 +1,0 @@
-use Rattle.rv_bounds.proofs.Programs.{data_fits}
-use Rattle.rv_bounds.proofs.laws.data_fits.Goals as goal
-
-pub returns : goal.returns
-returns c = data_fits c.programs_are_within_limits.ensures

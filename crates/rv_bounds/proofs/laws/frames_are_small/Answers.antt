@@ -1,5 +1,0 @@
-use Rattle.rv_bounds.proofs.Frames.{frames_are_small}
-use Rattle.rv_bounds.proofs.laws.frames_are_small.Goals as goal
-
-pub returns : goal.returns
-returns c = frames_are_small c.sizes_stand.ensures c.temporaries_are_few.ensures c.frames_are_within.ensures

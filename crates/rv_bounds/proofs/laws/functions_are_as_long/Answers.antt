@@ -1,5 +1,0 @@
-use Rattle.rv_bounds.proofs.Lengths.{functions_are_as_long}
-use Rattle.rv_bounds.proofs.laws.functions_are_as_long.Goals as goal
-
-pub returns : goal.returns
-returns c = functions_are_as_long

@@ -1,5 +1,0 @@
-use Rattle.rv_bounds.proofs.Lengths.{programs_are_as_long}
-use Rattle.rv_bounds.proofs.laws.programs_are_as_long.Goals as goal
-
-pub returns : goal.returns
-returns c = programs_are_as_long

@@ -1,5 +1,0 @@
-use Rattle.tac_bounds.proofs.Typed.{typed_have_scopes}
-use Rattle.tac_bounds.proofs.laws.typed_functions_have_scopes.Goals as goal
-
-pub returns : goal.returns
-returns c = typed_have_scopes
