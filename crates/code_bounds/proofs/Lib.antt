@@ -13,3 +13,4 @@ mod Words
 mod Frames
 mod Texts
 mod Programs
+mod Images

@@ -23,6 +23,7 @@ use Rattle.code_bounds.specs.Prices.{in_bytes, price_of, price_of_routine}
 use Rattle.rv_code.specs.Code.{step_code, entry_code, function_code}
 use Rattle.rv_code.specs.Frames.{end_from, frame_size}
 use Rattle.rv_code.specs.Programs.{AreSmall, all_texts_end, entries_end, first_entry, layout_of, program_code, words_of, words_of_function}
+use Rattle.rv_image.specs.Images.{Fits}
 use Rattle.rv_code.specs.declared.layout.Layout.{Layout}
 use Rattle.rv_code.specs.declared.layout.Places.{Places}
 
@@ -97,3 +98,7 @@ CodeFits p t = (files : List File) → IsProgramOf files p → code_of t ≡ low
 abbrev pub DataFits : Type 0
 DataFits = (files : List File) (p : ProgramData) → IsProgramOf files p → (at : ℕ)
     → end_from at (map (object_size p) p.objects) + texts_in_functions p.functions ≤ at + 2 ^ 24
+
+-- so its image is within the parts of the address space
+abbrev pub ProgramFits : (p : ProgramData) (t : Tac) → Type 0
+ProgramFits p t = (files : List File) → IsProgramOf files p → code_of t ≡ lowered p → Fits p t

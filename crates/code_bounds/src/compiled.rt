@@ -2,7 +2,7 @@
 
 ghost use Rattle.c_typed.specs.Programs.{program_data};
 ghost use Rattle.code_bounds.specs.CompiledLaws.{CodeFits, CodeIsInRange, CodeIsWithin, DataFits, EntriesAreAsLong, FramesAreSmall, FramesAreWeighed};
-ghost use Rattle.code_bounds.specs.CompiledLaws.{FunctionsAreAsLong, FunctionsArePaid, ProgramIsSmall, ProgramsAreAsLong, StepsAreAsLong, TextsAreWithin, WordsArePaid};
+ghost use Rattle.code_bounds.specs.CompiledLaws.{FunctionsAreAsLong, FunctionsArePaid, ProgramFits, ProgramIsSmall, ProgramsAreAsLong, StepsAreAsLong, TextsAreWithin, WordsArePaid};
 
 use c_typed::Typed;
 use c_well_typed::{
@@ -110,4 +110,21 @@ pub fn data_fits()
     ensures { DataFits }
 {
     programs_are_within_limits();
+}
+
+/// So the image of a program of files is within the parts of the address space.
+pub fn programs_fit(p: &Typed, t: &Tac)
+    ensures { ProgramFits (program_data p.now) t.now }
+{
+    programs_have_typed_functions(p);
+    programs_are_bounded();
+    programs_are_within_limits();
+    typed_functions_have_scopes();
+    code_is_within();
+    texts_are_within();
+    frames_are_small();
+    frames_are_within();
+    frames_weigh_less();
+    code_fits(p, t);
+    data_fits();
 }

@@ -2,9 +2,9 @@
 //!
 //! It stands on `lower_tac` and `rv_code`, whose code it speaks of, on `rv_image`, and on `c_well_typed`, whose weights and limits bound that code. By its laws
 //! each jump leads to a step of its function, no step writes a local that lies in a block, and a function pays for its steps and its temporaries by what is in
-//! it; machine code is as long as it was laid out for, each instruction has a word, the code of a program is within 512 bytes for each node, no frame takes more
-//! than a call of its function weighs, and the image of a program of files is within the parts of the address space. The laws of prices and frames ask that the
-//! locals stand in the scopes that declare them (`HasScopes`), as those of well typed functions do.
+//! it; machine code is as long as it was laid out for, each instruction has a word, the code of a program is within 512 bytes for each node, no frame takes
+//! more than a call of its function weighs, and the image of a program of files is within the parts of the address space. The laws of prices and frames ask
+//! that the locals stand in the scopes that declare them (`HasScopes`), as those of well typed functions do.
 #![tactic(auto)]
 
 mod compiled;
@@ -13,7 +13,7 @@ mod lowered;
 pub use compiled::{
     code_fits, code_is_in_range, code_is_within, data_fits, entries_are_as_long, frames_are_small,
     frames_are_weighed, functions_are_as_long, functions_are_paid, programs_are_as_long,
-    programs_are_small, steps_are_as_long, texts_are_within, words_are_paid,
+    programs_are_small, programs_fit, steps_are_as_long, texts_are_within, words_are_paid,
 };
 pub use lowered::{
     bytes_are_left, bytes_are_within, code_is_paid, frames_are_within, frames_weigh_less,

@@ -8,11 +8,14 @@ use Rattle.c_typed.specs.declared.program.Object.{Object}
 use Rattle.c_typed.specs.Programs.{ProgramData}
 use Rattle.rv_code.specs.Frames.{end_from, whole_words}
 use Rattle.rv_code.specs.declared.layout.Places.{Places}
-use Rattle.rv_image.specs.Data.{data_of_program, data_size, empty_data, put_all_texts, put_bytes, put_initial, put_objects, put_texts, put_values, value_bytes}
+use Rattle.rv_image.specs.Data.{data_of_program, data_size, empty_data, object_places, texts_at, put_all_texts, put_bytes, put_initial, put_objects, put_texts, put_values, value_bytes}
 use Rattle.rv_isa.specs.Encoding.{encoding}
 use Rattle.rv_isa.specs.declared.instruction.Inst.{Inst}
 use Rattle.rv_runtime.specs.Bytes.{bytes_of, data_bytes, open_page, page, runtime_bytes, words_of, zeros}
-use Rattle.rv_runtime.specs.Routines.{data_place}
+use Rattle.rv_runtime.specs.Routines.{data_place, return_code, start_code, exit_code, malloc_code, calloc_code, free_code, copy_code, fill_code, compare_code}
+use Rattle.elf32.specs.Written.{stack_address}
+use Rattle.rv_code.specs.Programs.{program_code}
+use Rattle.rv_image.specs.Images.{end_of_room, text_of_program}
 use Rattle.tac_ir.specs.Code.{Code, RoutineData}
 
 -- ---- bytes that are put keep the length
@@ -53,14 +56,16 @@ unfolding zeros
 zeros_length n = length-replicate n 0
 
 own_length : (heap_end : ℕ) → length (data_bytes heap_end) ≡ 256
-unfolding data_bytes
+unfolding data_bytes zeros
 own_length heap_end = ap (λ n. 4 + (4 + n)) (zeros_length 248)
 
 pub data_length : (p : ProgramData) (c : Code) (q : Places) (heap_end : ℕ) → length (data_of_program p c q heap_end) ≡ 256 + (data_size p c - 256)
 data_length p c q heap_end =
-    all_texts_keep _ c.routines _ ∙ objects_keep q p.objects q.objects (empty_data p c heap_end)
-    ∙ length-append (data_bytes heap_end) (replicate (data_size p c - 256) 0)
-    ∙ ap (λ n. n + length (replicate (data_size p c - 256) 0)) (own_length heap_end)
+    let rest : List ℕ = replicate (data_size p c - 256) 0 in
+    all_texts_keep (texts_at p) c.routines (put_objects q p.objects q.objects (empty_data p c heap_end))
+    ∙ objects_keep q p.objects q.objects (empty_data p c heap_end)
+    ∙ length-append (data_bytes heap_end) rest
+    ∙ ap (λ n. n + length rest) (own_length heap_end)
     ∙ ap (λ n. 256 + n) (length-replicate (data_size p c - 256) 0)
 
 -- ---- the text
@@ -78,4 +83,31 @@ open_length words le =
 
 page_length : (words : List ℕ) → 4 * length words ≤ 508 → length (page words) ≡ 512
 unfolding page
-page_length words le = ?
+page_length words le =
+    let inner : length (zeros (508 - 4 * length words) ++ bytes_of (encoding return_code ∷ [])) ≡ length (zeros (508 - 4 * length words)) + 4
+        = length-append (zeros (508 - 4 * length words)) (bytes_of (encoding return_code ∷ [])) in
+    let all : length (bytes_of words ++ (zeros (508 - 4 * length words) ++ bytes_of (encoding return_code ∷ [])))
+        ≡ length (bytes_of words) + length (zeros (508 - 4 * length words) ++ bytes_of (encoding return_code ∷ []))
+        = length-append (bytes_of words) (zeros (508 - 4 * length words) ++ bytes_of (encoding return_code ∷ [])) in
+    omega (arith, inner, all, words_length words, zeros_length (508 - 4 * length words))
+
+-- pages one behind the other
+joined : (a b : List ℕ) (m n : ℕ) → length a ≡ m → length b ≡ n → length (a ++ b) ≡ m + n
+joined a b m n e f = length-append a b ∙ ap (λ k. k + length b) e ∙ ap (λ k. m + k) f
+
+runtime_length : length runtime_bytes ≡ 4096
+runtime_length =
+    joined _ _ 512 3584 (open_length (words_of start_code) (omega arith))
+    (joined _ _ 512 3072 (open_length (words_of exit_code) (omega arith))
+    (joined _ _ 512 2560 (page_length (words_of malloc_code) (omega arith))
+    (joined _ _ 512 2048 (page_length (words_of calloc_code) (omega arith))
+    (joined _ _ 512 1536 (page_length (words_of free_code) (omega arith))
+    (joined _ _ 512 1024 (page_length (words_of copy_code) (omega arith))
+    (joined _ _ 512 512 (page_length (words_of fill_code) (omega arith)) (page_length (words_of compare_code) (omega arith))))))))
+
+pub text_length : (p : ProgramData) (c : Code) (stack : ℕ) → length (text_of_program p c stack)
+    ≡ 4096 + 4 * length (program_code c (end_of_room stack_address stack) (object_places p) (texts_at p))
+text_length p c stack =
+    let code : List Inst = program_code c (end_of_room stack_address stack) (object_places p) (texts_at p) in
+    joined runtime_bytes (bytes_of (words_of code)) 4096 (4 * length code) runtime_length
+    (words_length (words_of code) ∙ ap (λ n. 4 * n) (length-map code encoding))
