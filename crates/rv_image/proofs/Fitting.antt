@@ -1,13 +1,15 @@
 -- A program that fits into the parts of the address space: its places have 32 bits.
-use Rattle.std.proofs.Common.{◌≡◌, ℕ, suc, ◌+◌, ◌-◌, ◌*◌, ◌/◌, ◌^◌, ◌<◌, ◌≤◌, List, [], ◌∷◌, ◌++◌, length, map, refl, ap, ◌∙◌, arith}
-use Rattle.std.specs.Prelude.{All}
+use Rattle.std.proofs.Common.{◌≡◌, ℕ, suc, ◌+◌, ◌-◌, ◌*◌, ◌/◌, ◌^◌, ◌<◌, ◌≤◌, List, [], ◌∷◌, ◌++◌, length, map, refl, sym, subst, ap, ◌∙◌, arith}
+use Rattle.std.specs.Prelude.{All, IfOk, Result, Ok, Err}
 use Rattle.c_meaning.specs.Program.{object_size}
 use Rattle.c_typed.specs.Programs.{ProgramData}
 use Rattle.rv_code.specs.Frames.{end_from, places_from, whole_words}
-use Rattle.rv_code.specs.Programs.{all_texts_end, program_code}
+use Rattle.rv_code.specs.Programs.{all_texts_end, places_of, program_code}
 use Rattle.rv_code.proofs.Ranges.{program_in}
 use Rattle.rv_image.specs.Data.{data_size, object_places, object_sizes, objects_at, texts_at}
-use Rattle.rv_image.specs.Images.{Fits, text_of_program}
+use Rattle.elf32.specs.Written.{IsWritable}
+use Rattle.rv_image.specs.Images.{Fits, end_of_room, image_of, text_of_program}
+use Rattle.rv_image.proofs.Lengths.{data_length, text_length}
 use Rattle.rv_isa.specs.declared.instruction.Inst.{Inst}
 use Rattle.rv_runtime.specs.Bytes.{bytes_of, runtime_bytes, words_of}
 use Rattle.rv_image.proofs.Walks.{all_ends_behind}
@@ -41,3 +43,25 @@ pub text_is : (p : ProgramData) (c : Code) (stack : ℕ) (objects : List ℕ) (t
 text_is p c stack objects texts code bytes e f g h =
     e ∙ ap (λ is. runtime_bytes ++ bytes_of (words_of is)) (f ∙ ap (λ o. program_code c (0x10000000 + stack * 2 ^ 20) o texts) g
     ∙ ap (program_code c (0x10000000 + stack * 2 ^ 20) (object_places p)) h)
+
+-- ---- the image can be written
+
+pub subst_in : {A E : Type 0} (P : A → Type 0) (result : Result A E) (x : A) → IfOk result (λ y. y ≡ x) → P x → IfOk result P
+subst_in P (Ok y) x e h = subst P (sym e) h
+subst_in P (Err fault) x e h = tt
+
+pub writable : (p : ProgramData) (t : Tac) (heap stack : ℕ) → Fits p t → 1 ≤ heap → heap ≤ 1024 → 1 ≤ stack → stack ≤ 128
+    → IsWritable (image_of p (code_of t) heap stack)
+writable p t heap stack fits h1 h2 s1 s2 =
+    let text = text_length p (code_of t) stack in
+    let globals = data_length p (code_of t) (places_of (code_of t) (object_places p)) (end_of_room 0x20000000 heap) in
+    record {
+      entry = refl;
+      segments = record {
+        text_full = record { is_at = refl; has_flags = refl; size = refl; at_least = omega arith; at_most = fits.text stack };
+        globals_full = record { is_at = refl; has_flags = refl; size = refl; at_least = omega arith; at_most = fits.globals (end_of_room 0x20000000 heap) };
+        globals_whole = omega arith;
+        stack_room = record { is_at = refl; has_flags = refl; bytes = refl; mib = stack; size = refl; at_least = s1; at_most = s2 };
+        heap_room = record { is_at = refl; has_flags = refl; bytes = refl; mib = heap; size = refl; at_least = h1; at_most = h2 };
+      };
+    }

@@ -1,3 +1,3 @@
 pub mod Walks
-pub mod Fitting
 pub mod Lengths
+pub mod Fitting

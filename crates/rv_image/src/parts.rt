@@ -2,6 +2,7 @@
 
 ghost use Rattle.std.specs.Prelude.{◌≡◌, ◌<◌, ◌≤◌, ◌^◌, ◌++◌, All, IfOk, OnOk, length};
 ghost use Rattle.c_typed.specs.Programs.{program_data};
+ghost use Rattle.elf32.specs.Written.{IsWritable};
 ghost use Rattle.rv_image.specs.Data.{object_places, texts_at};
 ghost use Rattle.rv_image.specs.Images.{Fits, full_segment, image_of, image_with, room_segment};
 ghost use Rattle.rv_isa.specs.Encoding.{IsInRange};
@@ -131,9 +132,12 @@ fn places_in(alloc: Global, p: &Typed) -> Result<(List<u32>, u64), NoMemory>
 /// `Types::of` takes.
 pub fn image(alloc: Global, p: &Typed, t: &Tac, heap: u32, stack: u32) -> Result<Image, NoMemory>
     requires fits { Fits (program_data p.now) t.now }
+    requires some_heap { 1 ≤ heap }
     requires heap { heap ≤ 1024 }
+    requires some_stack { 1 ≤ stack }
     requires stack { stack ≤ 128 }
-    ensures { IfOk result (λ image. image ≡ image_of (program_data p.now) (code_of t.now) heap stack) }
+    ensures image { IfOk result (λ image. image ≡ image_of (program_data p.now) (code_of t.now) heap stack) }
+    ensures writable { IfOk result IsWritable }
 {
     let (objects, texts) = places_in(alloc, p)?;
     let stack_end = STACK + stack * MIB;

@@ -1,10 +1,11 @@
 use Rattle.std.proofs.Common.{◌≡◌, ◌∙◌, ◌+◌, ◌*◌, ◌<◌, ◌≤◌, ◌^◌, ◌++◌, sym, ap, subst, length, arith}
 use Rattle.std.specs.Prelude.{All, IfOk}
 use Rattle.c_typed.specs.Programs.{program_data}
-use Rattle.rv_image.proofs.Fitting.{texts_fit_in_all, one_for_each, code_in_range, text_is}
+use Rattle.rv_image.proofs.Fitting.{texts_fit_in_all, one_for_each, code_in_range, subst_in, text_is, writable}
 use Rattle.rv_code.specs.Programs.{places_of}
 use Rattle.rv_image.specs.Data.{data_of_program, object_places, texts_at}
 use Rattle.rv_image.specs.Images.{image_with, text_of_program}
+use Rattle.elf32.specs.Written.{IsWritable}
 use Rattle.rv_isa.specs.Encoding.{IsInRange}
 use Rattle.tac_ir.specs.Code.{code_of}
 use Rattle.rv_image.proofs.parts.image.Goals as goal
@@ -36,8 +37,8 @@ segments-requires-clause-text c =
     let most = c.requires.fits.text c.args.stack in
     omega arith
 
-pub returns : goal.returns
-returns c =
+pub returns-clause-image : goal.returns-clause-image
+returns-clause-image c =
     let text : c.in_ok-text.text.items ≡ text_of_program (program_data c.args.p.now) (code_of c.args.t.now) c.args.stack
     = text_is (program_data c.args.p.now) (code_of c.args.t.now) c.args.stack _ _ _ _ c.in_ok-text.ensures
     (c.as_slice.ensures.value ∙ c.in_ok-code.ensures.code) c.in_ok-objects.ensures.places c.in_ok-objects.ensures.texts in
@@ -51,3 +52,8 @@ returns c =
     (data_of_program (program_data c.args.p.now) (code_of c.args.t.now) (places_of (code_of c.args.t.now) (object_places (program_data c.args.p.now)))
     (0x20000000 + c.args.heap * 2 ^ 20)) c.args.heap c.args.stack)) text
     (subst (λ bytes. IfOk c.segments.result (λ image. image ≡ image_with c.in_ok-text.text.items bytes c.args.heap c.args.stack)) globals c.segments.ensures)
+
+pub returns-clause-writable : goal.returns-clause-writable
+returns-clause-writable c =
+    subst_in IsWritable c.segments.result _ (returns-clause-image c)
+    (writable (program_data c.args.p.now) c.args.t.now c.args.heap c.args.stack c.requires.fits c.requires.some_heap c.requires.heap c.requires.some_stack c.requires.stack)
