@@ -39,6 +39,7 @@ PACKAGES = {
     READELF: "binutils",
     COMPILERS[0]: "gcc-riscv64-unknown-elf",
     COMPILERS[1]: "gcc-riscv64-linux-gnu",
+    "riscv64-unknown-elf-objdump": "binutils-riscv64-unknown-elf",
     VALGRIND: "valgrind",
     TIME: "time",
 }

@@ -14,17 +14,17 @@ pub program_fits : (p : ProgramData) (t : Tac) → ((first_text : ℕ) → Progr
 program_fits p t small code globals texts files is same =
     let bytes : texts_at p + texts_in_functions p.functions ≤ objects_at + 2 ^ 24 = globals files p is objects_at in
     let behind : all_texts_end (texts_at p) (code_of t).routines ≤ texts_at p + texts_in_functions p.functions
-        = subst (λ (c : Code). all_texts_end (texts_at p) c.routines ≤ texts_at p + texts_in_functions p.functions) (sym same) (texts p (texts_at p)) in
+    = subst (λ (c : Code). all_texts_end (texts_at p) c.routines ≤ texts_at p + texts_in_functions p.functions) (sym same) (texts p (texts_at p)) in
     record {
       small = small (texts_at p) files is same (omega arith);
       text = λ stack.
           let few : 4 * length (program_code (code_of t) (end_of_room 0x10000000 stack) (object_places p) (texts_at p)) ≤ 2 ^ 26
-              = code files is same (end_of_room 0x10000000 stack) (object_places p) (texts_at p) in
+          = code files is same (end_of_room 0x10000000 stack) (object_places p) (texts_at p) in
           let long : length (text_of_program p (code_of t) stack)
-              ≡ 4096 + 4 * length (program_code (code_of t) (end_of_room 0x10000000 stack) (object_places p) (texts_at p)) = text_length p (code_of t) stack in
+          ≡ 4096 + 4 * length (program_code (code_of t) (end_of_room 0x10000000 stack) (object_places p) (texts_at p)) = text_length p (code_of t) stack in
           omega arith;
       globals = λ heap_end.
           let long : length (data_of_program p (code_of t) (places_of (code_of t) (object_places p)) heap_end) ≡ 256 + (data_size p (code_of t) - 256)
-              = data_length p (code_of t) (places_of (code_of t) (object_places p)) heap_end in
+          = data_length p (code_of t) (places_of (code_of t) (object_places p)) heap_end in
           omega arith;
     }

@@ -4,13 +4,13 @@ ghost use Rattle.c_typed.specs.Programs.{program_data};
 ghost use Rattle.code_bounds.specs.CompiledLaws.{CodeFits, CodeIsInRange, CodeIsWithin, DataFits, EntriesAreAsLong, FramesAreSmall, FramesAreWeighed};
 ghost use Rattle.code_bounds.specs.CompiledLaws.{FunctionsAreAsLong, FunctionsArePaid, ProgramFits, ProgramIsSmall, ProgramsAreAsLong, StepsAreAsLong, TextsAreWithin, WordsArePaid};
 
-use c_typed::Typed;
-use c_well_typed::{
-    programs_are_bounded, programs_are_within_limits, programs_have_typed_functions,
-};
 use crate::lowered::{
     bytes_are_left, frames_are_within, frames_weigh_less, sizes_stand, temporaries_are_few,
     typed_functions_have_scopes,
+};
+use c_typed::Typed;
+use c_well_typed::{
+    programs_are_bounded, programs_are_within_limits, programs_have_typed_functions,
 };
 use tac_ir::Tac;
 

@@ -20,6 +20,7 @@ const DIGITS: &[u8; 16] = b"0123456789abcdef";
 
 /// How many MiB of heap and of stack the files of rows have.
 const HEAP: u32 = 64;
+
 const STACK: u32 = 8;
 
 /// The file of a program of files and of its code.

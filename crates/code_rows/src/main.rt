@@ -1,8 +1,8 @@
 //! Reads rows of C files and prints the three-address code of each program, to be compared with what was written down by hand, or its file.
 //!
-//! A row is a block of lines: `code NAME` or `file NAME`, and its files, as `row_lines` has them. For each row the program prints `NAME:` and what is asked: the
-//! functions of its program that have a body, a step a line with how many steps are left there, which is what a jump names; or the file that the program is
-//! compiled to, in hexadecimal digits. A block that is no row is answered with that.
+//! A row is a block of lines: `code NAME` or `file NAME`, and its files, as `row_lines` has them. For each row the program prints `NAME:` and what is asked:
+//! the functions of its program that have a body, a step a line with how many steps are left there, which is what a jump names; or the file that the program
+//! is compiled to, in hexadecimal digits. A block that is no row is answered with that.
 #![tactic(auto)]
 
 mod image_text;

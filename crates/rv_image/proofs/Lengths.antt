@@ -78,17 +78,17 @@ open_length : (words : List ℕ) → 4 * length words ≤ 512 → length (open_p
 unfolding open_page
 open_length words le =
     let all : length (bytes_of words ++ zeros (512 - 4 * length words)) ≡ length (bytes_of words) + length (zeros (512 - 4 * length words))
-        = length-append (bytes_of words) (zeros (512 - 4 * length words)) in
+    = length-append (bytes_of words) (zeros (512 - 4 * length words)) in
     omega (arith, all, words_length words, zeros_length (512 - 4 * length words))
 
 page_length : (words : List ℕ) → 4 * length words ≤ 508 → length (page words) ≡ 512
 unfolding page
 page_length words le =
     let inner : length (zeros (508 - 4 * length words) ++ bytes_of (encoding return_code ∷ [])) ≡ length (zeros (508 - 4 * length words)) + 4
-        = length-append (zeros (508 - 4 * length words)) (bytes_of (encoding return_code ∷ [])) in
+    = length-append (zeros (508 - 4 * length words)) (bytes_of (encoding return_code ∷ [])) in
     let all : length (bytes_of words ++ (zeros (508 - 4 * length words) ++ bytes_of (encoding return_code ∷ [])))
-        ≡ length (bytes_of words) + length (zeros (508 - 4 * length words) ++ bytes_of (encoding return_code ∷ []))
-        = length-append (bytes_of words) (zeros (508 - 4 * length words) ++ bytes_of (encoding return_code ∷ [])) in
+    ≡ length (bytes_of words) + length (zeros (508 - 4 * length words) ++ bytes_of (encoding return_code ∷ []))
+    = length-append (bytes_of words) (zeros (508 - 4 * length words) ++ bytes_of (encoding return_code ∷ [])) in
     omega (arith, inner, all, words_length words, zeros_length (508 - 4 * length words))
 
 -- pages one behind the other
