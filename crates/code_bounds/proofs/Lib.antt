@@ -14,3 +14,4 @@ mod Frames
 mod Texts
 mod Programs
 mod Images
+pub mod Starts

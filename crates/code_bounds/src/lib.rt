@@ -5,10 +5,14 @@
 //! it; machine code is as long as it was laid out for, each instruction has a word, the code of a program is within 512 bytes for each node, no frame takes
 //! more than a call of its function weighs, and the image of a program of files is within the parts of the address space. The laws of prices and frames ask
 //! that the locals stand in the scopes that declare them (`HasScopes`), as those of well typed functions do.
+//!
+//! By a law of its own, over `source_start`, the start of a run of a program of files wants nothing but memory. Not said: that `start` answers `NoMemory` of
+//! such a program only for want of memory.
 #![tactic(auto)]
 
 mod compiled;
 mod lowered;
+mod starting;
 
 pub use compiled::{
     code_fits, code_is_in_range, code_is_within, data_fits, entries_are_as_long, frames_are_small,
@@ -20,3 +24,4 @@ pub use lowered::{
     jumps_stand, kinds_stand, labels_are_few, programs_are_within, programs_have_few_steps,
     sizes_stand, steps_are_few, temporaries_are_few, typed_functions_have_scopes,
 };
+pub use starting::programs_start_fit;

@@ -1,6 +1,6 @@
 use Rattle.c_typed.specs.Programs.{program_data}
-use Rattle.c_well_typed_memory.proofs.Starts.{starts_fit}
-use Rattle.c_well_typed_memory.proofs.laws.programs_start_fit.Goals as goal
+use Rattle.code_bounds.proofs.Starts.{starts_fit}
+use Rattle.code_bounds.proofs.starting.programs_start_fit.Goals as goal
 
 pub returns : goal.returns
 returns c =

@@ -1,7 +1,7 @@
 //! A law about the start of a run.
 
 ghost use Rattle.c_typed.specs.Programs.{program_data};
-ghost use Rattle.c_well_typed_memory.specs.Laws.{ProgramStartsFit};
+ghost use Rattle.code_bounds.specs.StartLaws.{ProgramStartsFit};
 
 use c_typed::Typed;
 use c_types::records_are_complete;

@@ -20,7 +20,7 @@ use Rattle.c_well_typed.specs.Laws.{ProgramHasTypedObjects}
 use Rattle.c_well_typed.specs.WellTyped.{of_program, ty, IsTypedObject}
 use Rattle.c_well_typed.specs.Within.{value_size, IsWithin, AreWithin, InitialsLieWithin, IsTextObject, IsNumber, AreNumbers, TextsHoldNumbers, ProgramHasTexts}
 use Rattle.c_well_typed.specs.Within.{ProgramsAreWithinLimits, ProgramsHaveFewLoops}
-use Rattle.c_well_typed_memory.specs.Laws.{ProgramStartsFit}
+use Rattle.code_bounds.specs.StartLaws.{ProgramStartsFit}
 use Rattle.source_start.specs.Fits.{value_bytes, StandsFree, IsFitValue}
 
 -- ---- values
