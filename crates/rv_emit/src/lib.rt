@@ -1,0 +1,15 @@
+//! Runs of three-address code are runs of the machine on the code that `rv_code` makes of it.
+//!
+//! Definitions and laws alone. `specs/Maps.antt` says where blocks stand in memory and which numbers stand for values, `Relation.antt` when the machine stands
+//! where a run stands (`Ready`), `Fitting.antt` what code must be, and `Claims.antt` what is claimed where a run ends. Proofs go backwards: for each kind of
+//! step, a law `KIND_works` takes the claim wherever the machine stands as the rest of the run does (`Follows`), and gives the claim on the step.
+//!
+//! Proved are the steps on values (`proofs/Plain.antt`, `Calculating.antt`, `Comparing.antt`, `Pointing.antt`, `Parts.antt`, `Fields.antt`), where code goes on
+//! (`Jumping.antt`), loads and stores of all widths with what is told of them (`Loading.antt`, `Storing.antt`), records that are copied (`Copying.antt`), and
+//! blocks of locals: they begin, end, hold nothing again, zeros or a text (`Beginning.antt`, `Ending.antt`, `Filling.antt`, `Texting.antt`).
+//!
+//! `Runs.antt` joins them: what three-address code comes to in some steps, the machine comes to, where each step that is left does so too.
+//!
+//! Missing are the laws of `Call`, `CallThrough`, `ReturnHeld`, `Library` and `Allocate`, which are premises there beside that of `Return`, which is proved
+//! (`Returning.antt`) where `main` gives a value, and that an image is such a program (`IsBuilt`, and `Ready` where its run begins).
+#![tactic(auto)]
