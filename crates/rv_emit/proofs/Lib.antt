@@ -29,3 +29,4 @@ pub mod Texting
 pub mod Runs
 pub mod Leaving
 pub mod Returning
+pub mod Entering
