@@ -30,3 +30,4 @@ pub mod Runs
 pub mod Leaving
 pub mod Returning
 pub mod Entering
+pub mod Receiving

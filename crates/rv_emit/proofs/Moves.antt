@@ -29,7 +29,7 @@ number_value n = by_sign (λ z. plus (upper n * 2 ^ 12) z ≡ n % 2 ^ 32) (n % 2
 small_value : (n : ℕ) → upper n ≡ 0 → plus 0 (lower n) ≡ n % 2 ^ 32
 small_value n e = by_sign (λ z. plus 0 z ≡ n % 2 ^ 32) (n % 2 ^ 12) (λ lt. omega (arith, ints)) (λ le. omega (arith, ints))
 
-far_value : (n a : ℕ) → plus ((upper n * 2 ^ 12 + a) % 2 ^ 32) (lower n) ≡ (a + n) % 2 ^ 32
+pub far_value : (n a : ℕ) → plus ((upper n * 2 ^ 12 + a) % 2 ^ 32) (lower n) ≡ (a + n) % 2 ^ 32
 far_value n a =
     by_sign (λ z. plus ((upper n * 2 ^ 12 + a) % 2 ^ 32) z ≡ (a + n) % 2 ^ 32) (n % 2 ^ 12) (λ lt. omega (arith, ints)) (λ le. omega (arith, ints))
 

@@ -1,0 +1,235 @@
+-- Parameters: each comes from its word of the row into its slot, or into its block.
+use Rattle.std.proofs.Common.{◌≡◌, ◌≢◌, ℕ, zero, suc, ◌+◌, ◌*◌, ◌%◌, ◌^◌, ◌<◌, ◌≤◌, ◌⊎◌, inl, inr, Bool, true, false, cond, ltb, ◌&&◌, List, [], ◌∷◌, ◌++◌, length, Option, Some, None, Ok, pos}
+use Rattle.std.proofs.Common.{slice_get, slice_set, slice_index, refl, ap, sym, ◌∙◌, subst, arith, append_assoc, length-set, ltb-true}
+use Rattle.std.specs.Prelude.{unwrap_or, ℤ}
+use Rattle.std.proofs.lemmas.Bool.{cond_both}
+use Rattle.std.proofs.lemmas.List.{length-replicate}
+use Rattle.lay_base.specs.declared.faults.RoomKind.TheVariants.{Live}
+use Rattle.lay_base.specs.declared.place.Place.{Place}
+use Rattle.memory_words.specs.declared.cell_words.pointer.Ptr.TheVariants as P
+use Rattle.block_memory.specs.Blocks.{Memory, Block, kind, ended}
+use Rattle.block_memory.specs.declared.kinds.Access.{Access}
+use Rattle.block_memory.specs.declared.kinds.BlockKind.TheVariants.{Local}
+use Rattle.block_memory.specs.Lifetimes.{is_heap, with_block}
+use Rattle.block_memory.specs.RunWorlds.Doing.{◌>>=◌, ◌>>◌, make, tested, memory_now, with_memory}
+use Rattle.block_memory.specs.RunWorlds.Events as E
+use Rattle.block_memory.specs.RunWorlds.Scalars.{note_if, note_in, store, store_in, width_of}
+use Rattle.block_memory.specs.RunWorlds.Worlds.{World, End, greatest_live, live_bytes, out_of_room}
+use Rattle.block_memory.specs.declared.run_worlds.value.Value.{Value}
+use Rattle.c_meaning.specs.Frames.{Frame, slot_now, with_slot}
+use Rattle.c_meaning.specs.declared.frame.Slot.{Slot}
+use Rattle.c_meaning.specs.declared.frame.Slot.TheVariants.{ByName as by_name, InBlock as in_block}
+use Rattle.rv_isa.specs.declared.instruction.Inst.{Inst}
+use Rattle.rv_isa.specs.Arithmetic.{plus}
+use Rattle.rv_isa.specs.Events.{code_address, stores_at}
+use Rattle.rv_isa.specs.Memory as M
+use Rattle.rv_isa.specs.Memory.{are_mapped, word_at, with_word, writable}
+use Rattle.rv_steps.specs.States.{Code, Keeps, Stands, at, put}
+use Rattle.rv_steps.proofs.Operators.{by_store_of}
+use Rattle.rv_steps.proofs.Registers.{put_other, put_same}
+use Rattle.rv_steps.proofs.Words.{word_fits, word_same}
+use Rattle.rv_code.specs.Code.{give_code, is_block, parameter_code, parameters_code, steps_code}
+use Rattle.rv_code.specs.Frames.{block_places, block_sizes, frame_size, slot_at, slots}
+use Rattle.rv_code.specs.Words.{fetch_code, keep_code, lower, store_by, upper}
+use Rattle.tac_ir.specs.Running.{Next, begin, empty_slot, end_slot, receive, received, with_temp}
+use Rattle.tac_ir.specs.declared.step.Parameter.{Parameter}
+use Rattle.rv_emit.specs.Maps.{Extent, Extents, Means}
+use Rattle.rv_emit.specs.Grounds.{Ground}
+use Rattle.rv_emit.specs.Relation.{Program, Moment, ParameterFits, Point, Ready, Here, IsBuilt}
+use Rattle.rv_emit.specs.Claims.{Claims, AreClaims, Follows, state}
+use Rattle.rv_emit.proofs.Accesses.{Stored, access_stored, store_is, stored_is, with_access}
+use Rattle.rv_emit.proofs.Beginning.{begun, begun_ready, block_known}
+use Rattle.rv_emit.proofs.Giving.{elsewhere, given, slot_place, word_elsewhere}
+use Rattle.rv_emit.proofs.Growing.{means_more}
+use Rattle.rv_emit.proofs.Keeping.{frame_end}
+use Rattle.rv_emit.proofs.Lists.{get_below, get_last, place_within, set_other, set_same}
+use Rattle.rv_emit.proofs.Loading.{lies, whole_at, wide}
+use Rattle.rv_emit.proofs.Moves.{Goal, Shown, by_add, by_fetch, by_keep, by_lui, code_back, code_front, far_value, here, near_value, parts}
+use Rattle.rv_emit.proofs.Plain.{aim}
+use Rattle.rv_emit.proofs.Storing.{stored}
+use Rattle.rv_emit.proofs.Values.{by_tested}
+
+-- ---- a number goes behind an address in a register, by any access; x7 may be lost
+
+module _ (ground : Ground) (goal : Goal ground) (f : ℕ → ℕ) (pc : ℕ) (memory : M.Memory) (keeps : Keeps ground.text memory) (le : code_address ≤ pc) where
+  open ground use {segments, text}
+
+  one_store : (access : Access) (g : ℕ → ℕ) (pc' : ℕ) (base rs a v : ℕ) (imm : ℤ) → code_address ≤ pc' → Stands segments text pc' (store_by access base rs imm) → base < 32 → rs < 32
+      → plus (g base) imm ≡ a → a % width_of access ≡ 0 → are_mapped segments writable a (width_of access) ≡ true → stores_at segments a (width_of access) ≡ []
+      → g rs ≡ v → Shown ground goal g (pc' + 4) (with_access access memory a v) → Shown ground goal g pc' memory
+  one_store access g pc' base rs a v imm inside h lb lt e whole mapped quiet value c =
+      goal.claim.fewer goal.n (at g pc' memory goal.input goal.output) goal.before
+      (by_store_of segments text goal.Claim goal.claim g pc' memory goal.input goal.output keeps inside goal.n goal.before (store_by access base rs imm) h [] base rs a
+      (width_of access) imm (with_access access) (store_is access base rs imm) lb lt e whole mapped quiet
+      (subst (λ z. Shown ground goal g (pc' + 4) (with_access access memory a z)) (sym value) c))
+
+  pub by_keep_of : (access : Access) (rs base offset a v : ℕ) → rs < 32 → base < 32 → rs ≢ 7 → base ≢ 7 → Code segments text pc (keep_code access rs base offset)
+      → (f base + offset) % 2 ^ 32 ≡ a → a % width_of access ≡ 0 → are_mapped segments writable a (width_of access) ≡ true
+      → stores_at segments a (width_of access) ≡ [] → f rs ≡ v
+      → ((g : ℕ → ℕ) → ((q : ℕ) → q ≢ 7 → g q ≡ f q)
+      → Shown ground goal g (pc + 4 * length (keep_code access rs base offset)) (with_access access memory a v))
+      → Shown ground goal f pc memory
+  by_keep_of access rs base offset a v lt lb ne nb code is whole mapped quiet value c =
+      cond_both (ltb offset 2048) _ _
+      (λ (is : List Inst). Code segments text pc is
+      → ((g : ℕ → ℕ) → ((q : ℕ) → q ≢ 7 → g q ≡ f q) → Shown ground goal g (pc + 4 * length is) (with_access access memory a v)) → Shown ground goal f pc memory)
+      (λ e code c. one_store access f pc base rs a v (pos offset) le code.0 lb lt (near_value offset (f base) (ltb-true _ _ e) ∙ is) whole mapped quiet value
+      (here ground goal f (pc + 4) _ (with_access access memory a v) (omega arith) (c f (λ q d. refl))))
+      (λ e code c.
+      let hi = upper offset * 2 ^ 12 in
+      let g = put f 7 hi in
+      let x = (hi + f base) % 2 ^ 32 in
+      let h = put g 7 x in
+      by_lui ground goal f pc memory keeps le 7 (upper offset) code.0 (omega arith)
+      (by_add ground goal g (pc + 4) memory keeps (omega arith) 7 7 base x code.1.0 (omega arith) (omega arith) lb
+      (ap (λ (z : ℕ). (hi + z) % 2 ^ 32) (put_other f 7 hi base nb))
+      (one_store access h (pc + 4 + 4) 7 rs a v (lower offset) (omega arith) code.1.1.0 (omega arith) lt (far_value offset (f base) ∙ is) whole mapped quiet
+      (put_other g 7 x rs ne ∙ put_other f 7 hi rs ne ∙ value)
+      (here ground goal h (pc + 4 + 4 + 4) _ (with_access access memory a v) (omega arith) (c h (λ q d. put_other g 7 x q d ∙ put_other f 7 hi q d))))))
+      code c
+
+-- ---- frames
+
+-- a slot that is emptied and written is a temporary that is written
+set_is_temp : (f : Frame) (x : ℕ) (a b : Slot) → x < length f → slice_set (slice_set f x a) x b ≡ with_temp x b f
+set_is_temp [] x a b lt = absurd (omega arith)
+set_is_temp (o ∷ f) zero a b lt = refl
+set_is_temp (o ∷ f) (suc x) a b lt = ap (λ (z : Frame). o ∷ z) (set_is_temp f x a b (omega arith))
+
+temp_get : (f : Frame) (x y : ℕ) (b : Slot) → x < length f → y ≢ x → slice_get (with_temp x b f) y ≡ slice_get f y
+temp_get f x y b lt ne = ap (λ (z : Frame). slice_get z y) (sym (set_is_temp f x b b lt)) ∙ set_other (slice_set f x b) x y b ne ∙ set_other f x y b ne
+
+-- ---- what is passed: from the x-th word of the row on
+
+module _ (p : Program) where
+  abbrev pub Passed : Extents → M.Memory → (row x : ℕ) → List Value → Type 0
+  Passed blocks memory row x [] = Unit {0}
+  Passed blocks memory row x (v ∷ vs) = Means p.code p.places blocks v (word_at memory (row + 4 * x)) × Passed blocks memory row (x + 1) vs
+
+  pub passed_stays : (blocks : Extents) (old new : M.Memory) (row x : ℕ) (vs : List Value) → ((a : ℕ) → row ≤ a → new a ≡ old a) → Passed blocks old row x vs
+      → Passed blocks new row x vs
+  passed_stays blocks old new row x [] same h = tt
+  passed_stays blocks old new row x (v ∷ vs) same h =
+      let e : word_at new (row + 4 * x) ≡ word_at old (row + 4 * x) = word_same old new (row + 4 * x) (λ i lt. same (row + 4 * x + i) (omega arith)) in
+      (subst (Means p.code p.places blocks v) (sym e) h.0, passed_stays blocks old new row (x + 1) vs same h.1)
+
+  pub passed_more : (blocks more : Extents) (memory : M.Memory) (row x : ℕ) (vs : List Value) → Passed blocks memory row x vs → Passed (blocks ++ more) memory row x vs
+  passed_more blocks more memory row x [] h = tt
+  passed_more blocks more memory row x (v ∷ vs) h =
+      (means_more p.code p.places blocks more v (word_at memory (row + 4 * x)) h.0, passed_more blocks more memory row (x + 1) vs h.1)
+
+-- ---- the blocks of a frame that begin there
+
+-- the last block of memory has its kind
+last_kind : (m : Memory) (n : ℕ) → kind (with_block m n Local) (length m) ≡ Local
+last_kind m n = ap (λ (o : Option Block). (unwrap_or o (record { kind = Local; contents = ended 0 })).kind) (get_last m (length m) _ refl)
+
+module _ (ground : Ground) (p : Program) (built : IsBuilt ground p) (Claim : Claims) (claims : AreClaims ground p Claim) (next : Next)
+    (follows : Follows ground p Claim next) (place : Place) (row : ℕ) (row_whole : row % 4 ≡ 0) where
+  -- what each parameter still has to come
+  pub record Comes (m : Moment) (q : Point) (x : ℕ) (rs : List Parameter) (vs : List Value) : Type 0 where
+    pub ready : Ready ground p m q
+    pub few : length rs ≤ length vs
+    pub fits : (i : ℕ) (r : Parameter) → slice_get rs i ≡ Some r → ParameterFits m.g (x + i) r
+    pub idle : (i : ℕ) (r : Parameter) → slice_get rs i ≡ Some r → slice_get m.frame (x + i) ≡ Some (empty_slot r.block)
+    pub passed : Passed p m.blocks q.memory row x vs
+    pub row_is : q.f 10 ≡ row
+    pub above : m.sp + m.l.size ≤ row
+    pub below : row + 4 * (x + length vs) ≤ ground.room.stack_end
+
+  abbrev tail_of : Moment → (x : ℕ) → List Parameter → List Inst
+  tail_of m x rs = parameters_code m.l x rs ++ steps_code p.places m.g m.l m.more
+
+  -- the word of the row comes into x5
+  fetched : (e : End) (m : Moment) (q : Point) (x : ℕ) (v : Value) (vs : List Value) (tail : List Inst) → Ready ground p m q
+      → Passed p m.blocks q.memory row x (v ∷ vs) → q.f 10 ≡ row → m.sp + m.l.size ≤ row → row + 4 * (x + length (v ∷ vs)) ≤ ground.room.stack_end
+      → Here ground p q.pc (fetch_code 5 10 (4 * x) ++ tail)
+      → ((y : ℕ) → Means p.code p.places m.blocks v y → y < 2 ^ 32 → (r : Point) → r ≡ record q { f = put q.f 5 y; pc = q.pc + 4 * length (fetch_code 5 10 (4 * x)) }
+      → Ready ground p m r → Here ground p r.pc tail → Claim e m.w.turns (state r) r.before)
+      → Claim e m.w.turns (state q) q.before
+  fetched e m q x v vs tail ready passed row_is above below code c =
+      let fr = ready.frame in
+      let top = ground.stack_end in
+      let fetch = fetch_code 5 10 (4 * x) in
+      let a = row + 4 * x in
+      let y = word_at q.memory a in
+      let pc = q.pc + 4 * length fetch in
+      let f = put q.f 5 y in
+      let sum : (q.f 10 + 4 * x) % 2 ^ 32 ≡ a = omega (arith, row_is) in
+      by_fetch ground (aim ground p built Claim claims e m.w.turns q) q.f q.pc q.memory ready.world.keeps ready.code 5 10 (4 * x) a (omega arith) (omega arith)
+      (omega arith) (λ d. omega arith) (code_front ground q.pc fetch tail code) sum (omega arith)
+      (ground.read a 4 (inr (inl (omega (arith, fr.low), omega arith)))) (ground.quiet_load a 4 (omega arith))
+      (c y passed.0 (word_fits q.memory a ready.world.keeps.bytes) (record q { f = f; pc = pc }) refl
+      (elsewhere ground p m q ready f pc refl refl (omega (arith, ready.code)) (omega (arith, ready.whole))) (code_back ground q.pc fetch tail code))
+
+  -- by its name, into its slot
+  named : (e : End) (m : Moment) (q : Point) (x y : ℕ) (v : Value) (tail : List Inst) → Ready ground p m q → q.f 5 ≡ y → y < 2 ^ 32
+      → Means p.code p.places m.blocks v y → slice_get m.frame x ≡ Some (by_name None) → m.sp + m.l.size ≤ row
+      → Here ground p q.pc (give_code x 5 ++ tail)
+      → ((m' : Moment) (r : Point) → m' ≡ record m { frame = with_temp x (by_name (Some v)) m.frame } → Ready ground p m' r
+      → ((a : ℕ) → row ≤ a → r.memory a ≡ q.memory a) → r.f 10 ≡ q.f 10 → Here ground p r.pc tail → r.before ≡ q.before → Claim e m.w.turns (state r) r.before)
+      → Claim e m.w.turns (state q) q.before
+  named e m q x y v tail ready five small means idle above code c =
+      let fr = ready.frame in
+      let lx : x < slots m.g = omega (arith, get_below m.frame x (by_name None) idle, fr.count) in
+      let opened = fr.shows x (by_name None) idle in
+      let where' = slot_place ground p m q ready x lx in
+      let end = frame_end ground p m.blocks m.owner m.number m.g m.l fr.laid in
+      let a = m.sp + slot_at x in
+      let give = give_code x 5 in
+      let pc = q.pc + 4 * length give in
+      by_keep ground (aim ground p built Claim claims e m.w.turns q) q.f q.pc q.memory ready.world.keeps ready.code 5 2 (slot_at x) a y (omega arith) (omega arith)
+      (λ d. omega arith) (λ d. omega arith) (code_front ground q.pc give tail code) where'.is where'.whole (ground.write a 4 (inr (inl (where'.low, where'.high))))
+      (ground.quiet_store a 4 (omega (arith, where'.high, ground.stack_end))) five
+      (λ g same. c (record m { frame = with_temp x (by_name (Some v)) m.frame }) (record q { f = g; pc = pc; memory = with_word q.memory a y }) refl
+      (given ground p m q ready x (Some v) lx opened y (λ u d. small) (λ u d. let k : v ≡ u = cc in subst (λ z. Means p.code p.places m.blocks z y) k means)
+      g pc (same 0 (λ d. omega arith)) (same 2 (λ d. omega arith)) (omega (arith, ready.code)) (omega (arith, ready.whole)))
+      (λ b le. word_elsewhere q.memory a y b (inr (omega (arith, where'.inside, end.0))))
+      (same 10 (λ d. omega arith)) (code_back ground q.pc give tail code) refl)
+
+  -- into its block, which has begun
+  placed_in : (e : End) (m : Moment) (q : Point) (x y b : ℕ) (v : Value) (access : Access) (after : Memory) (tail : List Inst) → Ready ground p m q → q.f 5 ≡ y
+      → Means p.code p.places m.blocks v y → slice_get m.frame x ≡ Some (in_block (Some b)) → kind m.w.memory b ≡ Local
+      → store_in m.w.memory (P.Block b 0) access v ≡ Ok after → m.sp + m.l.size ≤ row
+      → Here ground p q.pc (keep_code access 5 2 (slice_index m.l.blocks x) ++ tail)
+      → ((m' : Moment) (r : Point) → m' ≡ record m { w = record m.w { memory = after } } → Ready ground p m' r
+      → ((a : ℕ) → row ≤ a → r.memory a ≡ q.memory a) → r.f 10 ≡ q.f 10 → Here ground p r.pc tail → r.before ≡ q.before → Claim e m.w.turns (state r) r.before)
+      → Claim e m.w.turns (state q) q.before
+  placed_in e m q x y b v access after tail ready five means begun_is local is above code c =
+      let fr = ready.frame in
+      let shows = fr.shows x (in_block (Some b)) begun_is in
+      let offset = slice_index m.l.blocks x in
+      let d : Extent = record { at = m.sp + offset; size = slice_index (block_sizes m.g) x } in
+      let st = stored_is p.code p.places m.blocks m.w.memory after (P.Block b 0) access v y is means in
+      let same_b : b ≡ st.b = (let z = st.found.is in cc) in
+      let same_at : 0 ≡ st.at = (let z = st.found.is in cc) in
+      let placed_b = subst (λ z. slice_get m.blocks z ≡ Some d) same_b shows.2 in
+      let placed = ready.world.flat.placed st.b d placed_b in
+      let inside : st.at + width_of access ≤ d.size = omega (arith, st.found.fits, placed.sized) in
+      let lie = lies ground (kind m.w.memory st.b) d st.at (width_of access) placed.within inside in
+      let not_heap : is_heap (kind m.w.memory st.b) ≡ false = ap (λ (z : ℕ). is_heap (kind m.w.memory z)) (sym same_b) ∙ ap is_heap local in
+      let n = wide access in
+      let a = m.sp + offset + st.at in
+      let sum : (q.f 2 + offset) % 2 ^ 32 ≡ a = omega (arith, ready.stack, lie.below) in
+      let keep = keep_code access 5 2 offset in
+      let pc = q.pc + 4 * length keep in
+      let done = stored ground p m q ready (P.Block b 0) access after y d st placed_b (omega (arith, lie.above)) in
+      let m' : Moment = record m { w = record m.w { memory = after } } in
+      let new = with_access access q.memory a y in
+      let written = access_stored access q.memory a y in
+      let within = by_place fr.laid.blocks fr.laid.size shows.0 in
+      by_keep_of ground (aim ground p built Claim claims e m.w.turns q) q.f q.pc q.memory ready.world.keeps ready.code access 5 2 offset a y (omega arith) (omega arith)
+      (λ d. omega arith) (λ d. omega arith) (code_front ground q.pc keep tail code) sum (whole_at access d.at st.at placed.whole st.found.whole)
+      (ground.write a (width_of access) lie.in_room) (ground.quiet_store a (width_of access) (omega (arith, lie.other not_heap, n.0))) five
+      (λ g same. c m' (record q { f = g; pc = pc; memory = new }) refl
+      (elsewhere ground p m' (record q { memory = new }) done g pc (same 0 (λ d. omega arith)) (same 2 (λ d. omega arith)) (omega (arith, ready.code))
+      (omega (arith, ready.whole)))
+      (λ z le. written.outside z (inr (omega (arith, within))))
+      (same 10 (λ d. omega arith)) (code_back ground q.pc keep tail code) refl)
+    where
+      by_place : m.l.blocks ≡ block_places m.g → m.l.size ≡ frame_size m.g → is_block m.g x ≡ true
+          → slice_index m.l.blocks x + slice_index (block_sizes m.g) x ≤ m.l.size
+      by_place blocks size is =
+          let within = place_within (slot_at (slots m.g)) (block_sizes m.g) x (block_known m.g x is) (omega arith) in
+          let where' : slice_index m.l.blocks x ≡ slice_index (block_places m.g) x = ap (λ (z : List ℕ). slice_index z x) blocks in
+          omega (arith, within.1)
