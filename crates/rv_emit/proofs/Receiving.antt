@@ -140,12 +140,16 @@ module _ (ground : Ground) (p : Program) (built : IsBuilt ground p) (Claim : Cla
   abbrev tail_of : Moment → (x : ℕ) → List Parameter → List Inst
   tail_of m x rs = parameters_code m.l x rs ++ steps_code p.places m.g m.l m.more
 
+  -- the point behind a word of the row that comes into x5
+  abbrev taken : Point → (x y : ℕ) → Point
+  taken q x y = record q { f = put q.f 5 y; pc = q.pc + 4 * length (fetch_code 5 10 (4 * x)) }
+
   -- the word of the row comes into x5
   fetched : (e : End) (m : Moment) (q : Point) (x : ℕ) (v : Value) (vs : List Value) (tail : List Inst) → Ready ground p m q
       → Passed p m.blocks q.memory row x (v ∷ vs) → q.f 10 ≡ row → m.sp + m.l.size ≤ row → row + 4 * (x + length (v ∷ vs)) ≤ ground.room.stack_end
       → Here ground p q.pc (fetch_code 5 10 (4 * x) ++ tail)
-      → ((y : ℕ) → Means p.code p.places m.blocks v y → y < 2 ^ 32 → (r : Point) → r ≡ record q { f = put q.f 5 y; pc = q.pc + 4 * length (fetch_code 5 10 (4 * x)) }
-      → Ready ground p m r → Here ground p r.pc tail → Claim e m.w.turns (state r) r.before)
+      → ((y : ℕ) → Means p.code p.places m.blocks v y → y < 2 ^ 32 → Ready ground p m (taken q x y) → Here ground p (taken q x y).pc tail
+      → Claim e m.w.turns (state (taken q x y)) q.before)
       → Claim e m.w.turns (state q) q.before
   fetched e m q x v vs tail ready passed row_is above below code c =
       let fr = ready.frame in
@@ -159,15 +163,15 @@ module _ (ground : Ground) (p : Program) (built : IsBuilt ground p) (Claim : Cla
       by_fetch ground (aim ground p built Claim claims e m.w.turns q) q.f q.pc q.memory ready.world.keeps ready.code 5 10 (4 * x) a (omega arith) (omega arith)
       (omega arith) (λ d. omega arith) (code_front ground q.pc fetch tail code) sum (omega arith)
       (ground.read a 4 (inr (inl (omega (arith, fr.low), omega arith)))) (ground.quiet_load a 4 (omega arith))
-      (c y passed.0 (word_fits q.memory a ready.world.keeps.bytes) (record q { f = f; pc = pc }) refl
+      (c y passed.0 (word_fits q.memory a ready.world.keeps.bytes)
       (elsewhere ground p m q ready f pc refl refl (omega (arith, ready.code)) (omega (arith, ready.whole))) (code_back ground q.pc fetch tail code))
 
   -- by its name, into its slot
   named : (e : End) (m : Moment) (q : Point) (x y : ℕ) (v : Value) (tail : List Inst) → Ready ground p m q → q.f 5 ≡ y → y < 2 ^ 32
       → Means p.code p.places m.blocks v y → slice_get m.frame x ≡ Some (by_name None) → m.sp + m.l.size ≤ row
       → Here ground p q.pc (give_code x 5 ++ tail)
-      → ((m' : Moment) (r : Point) → m' ≡ record m { frame = with_temp x (by_name (Some v)) m.frame } → Ready ground p m' r
-      → ((a : ℕ) → row ≤ a → r.memory a ≡ q.memory a) → r.f 10 ≡ q.f 10 → Here ground p r.pc tail → r.before ≡ q.before → Claim e m.w.turns (state r) r.before)
+      → ((r : Point) → Ready ground p (record m { frame = with_temp x (by_name (Some v)) m.frame }) r
+      → ((a : ℕ) → row ≤ a → r.memory a ≡ q.memory a) → r.f 10 ≡ q.f 10 → Here ground p r.pc tail → Claim e m.w.turns (state r) r.before)
       → Claim e m.w.turns (state q) q.before
   named e m q x y v tail ready five small means idle above code c =
       let fr = ready.frame in
@@ -181,19 +185,19 @@ module _ (ground : Ground) (p : Program) (built : IsBuilt ground p) (Claim : Cla
       by_keep ground (aim ground p built Claim claims e m.w.turns q) q.f q.pc q.memory ready.world.keeps ready.code 5 2 (slot_at x) a y (omega arith) (omega arith)
       (λ d. omega arith) (λ d. omega arith) (code_front ground q.pc give tail code) where'.is where'.whole (ground.write a 4 (inr (inl (where'.low, where'.high))))
       (ground.quiet_store a 4 (omega (arith, where'.high, ground.stack_end))) five
-      (λ g same. c (record m { frame = with_temp x (by_name (Some v)) m.frame }) (record q { f = g; pc = pc; memory = with_word q.memory a y }) refl
+      (λ g same. c (record q { f = g; pc = pc; memory = with_word q.memory a y })
       (given ground p m q ready x (Some v) lx opened y (λ u d. small) (λ u d. let k : v ≡ u = cc in subst (λ z. Means p.code p.places m.blocks z y) k means)
       g pc (same 0 (λ d. omega arith)) (same 2 (λ d. omega arith)) (omega (arith, ready.code)) (omega (arith, ready.whole)))
       (λ b le. word_elsewhere q.memory a y b (inr (omega (arith, where'.inside, end.0))))
-      (same 10 (λ d. omega arith)) (code_back ground q.pc give tail code) refl)
+      (same 10 (λ d. omega arith)) (code_back ground q.pc give tail code))
 
   -- into its block, which has begun
   placed_in : (e : End) (m : Moment) (q : Point) (x y b : ℕ) (v : Value) (access : Access) (after : Memory) (tail : List Inst) → Ready ground p m q → q.f 5 ≡ y
       → Means p.code p.places m.blocks v y → slice_get m.frame x ≡ Some (in_block (Some b)) → kind m.w.memory b ≡ Local
       → store_in m.w.memory (P.Block b 0) access v ≡ Ok after → m.sp + m.l.size ≤ row
       → Here ground p q.pc (keep_code access 5 2 (slice_index m.l.blocks x) ++ tail)
-      → ((m' : Moment) (r : Point) → m' ≡ record m { w = record m.w { memory = after } } → Ready ground p m' r
-      → ((a : ℕ) → row ≤ a → r.memory a ≡ q.memory a) → r.f 10 ≡ q.f 10 → Here ground p r.pc tail → r.before ≡ q.before → Claim e m.w.turns (state r) r.before)
+      → ((r : Point) → Ready ground p (record m { w = record m.w { memory = after } }) r
+      → ((a : ℕ) → row ≤ a → r.memory a ≡ q.memory a) → r.f 10 ≡ q.f 10 → Here ground p r.pc tail → Claim e m.w.turns (state r) r.before)
       → Claim e m.w.turns (state q) q.before
   placed_in e m q x y b v access after tail ready five means begun_is local is above code c =
       let fr = ready.frame in
@@ -221,11 +225,11 @@ module _ (ground : Ground) (p : Program) (built : IsBuilt ground p) (Claim : Cla
       by_keep_of ground (aim ground p built Claim claims e m.w.turns q) q.f q.pc q.memory ready.world.keeps ready.code access 5 2 offset a y (omega arith) (omega arith)
       (λ d. omega arith) (λ d. omega arith) (code_front ground q.pc keep tail code) sum (whole_at access d.at st.at placed.whole st.found.whole)
       (ground.write a (width_of access) lie.in_room) (ground.quiet_store a (width_of access) (omega (arith, lie.other not_heap, n.0))) five
-      (λ g same. c m' (record q { f = g; pc = pc; memory = new }) refl
+      (λ g same. c (record q { f = g; pc = pc; memory = new })
       (elsewhere ground p m' (record q { memory = new }) done g pc (same 0 (λ d. omega arith)) (same 2 (λ d. omega arith)) (omega (arith, ready.code))
       (omega (arith, ready.whole)))
       (λ z le. written.outside z (inr (omega (arith, within))))
-      (same 10 (λ d. omega arith)) (code_back ground q.pc keep tail code) refl)
+      (same 10 (λ d. omega arith)) (code_back ground q.pc keep tail code))
     where
       by_place : m.l.blocks ≡ block_places m.g → m.l.size ≡ frame_size m.g → is_block m.g x ≡ true
           → slice_index m.l.blocks x + slice_index (block_sizes m.g) x ≤ m.l.size
@@ -233,3 +237,142 @@ module _ (ground : Ground) (p : Program) (built : IsBuilt ground p) (Claim : Cla
           let within = place_within (slot_at (slots m.g)) (block_sizes m.g) x (block_known m.g x is) (omega arith) in
           let where' : slice_index m.l.blocks x ≡ slice_index (block_places m.g) x = ap (λ (z : List ℕ). slice_index z x) blocks in
           omega (arith, within.1)
+
+  -- ---- one parameter after another
+
+  -- from the x-th on
+  abbrev Going : (rs : List Parameter) → (vs : List Value) → (x : ℕ) → Type 0
+  Going rs vs x = (m : Moment) (q : Point) → Comes m q x rs vs → Here ground p q.pc (tail_of m x rs)
+      → Claim (receive place x rs vs (λ u f. next m.callers m.g m.more f) m.frame m.w) m.w.turns (state q) q.before
+
+  module _ (r : Parameter) (rs : List Parameter) (v : Value) (vs : List Value) (x : ℕ) (going : Going rs vs (x + 1)) (m : Moment) (q : Point)
+      (h : Comes m q x (r ∷ rs) (v ∷ vs)) (code : Here ground p q.pc (tail_of m x (r ∷ rs))) where
+    abbrev tail : List Inst
+    tail = tail_of m (x + 1) rs
+
+    abbrev stored_code : Bool → List Inst
+    stored_code b = cond b (keep_code r.access 5 2 (slice_index m.l.blocks x)) (give_code x 5)
+
+    at_x : slice_get m.frame x ≡ Some (empty_slot r.block)
+    at_x = (let z : x + 0 ≡ x = omega arith in subst (λ i. slice_get m.frame i ≡ Some (empty_slot r.block)) z (h.idle 0 r refl))
+
+    fits_x : ParameterFits m.g x r
+    fits_x = (let z : x + 0 ≡ x = omega arith in subst (λ i. ParameterFits m.g i r) z (h.fits 0 r refl))
+
+    lx : x < length m.frame
+    lx = get_below m.frame x (empty_slot r.block) at_x
+
+    code' : Here ground p q.pc (fetch_code 5 10 (4 * x) ++ (stored_code r.block ++ tail))
+    code' =
+        let steps = steps_code p.places m.g m.l m.more in
+        let rest = parameters_code m.l (x + 1) rs in
+        subst (λ z. Here ground p q.pc (fetch_code 5 10 (4 * x) ++ z)) (append_assoc (stored_code r.block) rest steps)
+        (subst (Here ground p q.pc) (append_assoc (fetch_code 5 10 (4 * x)) (stored_code r.block ++ rest) steps) code)
+
+    -- what is to come after it
+    later_fits : (i : ℕ) (s : Parameter) → slice_get rs i ≡ Some s → ParameterFits m.g (x + 1 + i) s
+    later_fits i s e = (let z : x + suc i ≡ x + 1 + i = omega arith in subst (λ j. ParameterFits m.g j s) z (h.fits (suc i) s e))
+
+    later_idle : (f : Frame) → ((y : ℕ) → y ≢ x → slice_get f y ≡ slice_get m.frame y) → (i : ℕ) (s : Parameter) → slice_get rs i ≡ Some s
+        → slice_get f (x + 1 + i) ≡ Some (empty_slot s.block)
+    later_idle f same i s e =
+        let z : x + suc i ≡ x + 1 + i = omega arith in
+        same (x + 1 + i) (λ d. omega arith) ∙ subst (λ j. slice_get m.frame j ≡ Some (empty_slot s.block)) z (h.idle (suc i) s e)
+
+    abbrev rest_of : Unit {0} → Frame → World → End
+    rest_of u = receive place (x + 1) rs vs (λ u f. next m.callers m.g m.more f)
+
+    by_name_none : slice_get m.frame x ≡ Some (by_name None) → Here ground p q.pc (fetch_code 5 10 (4 * x) ++ (give_code x 5 ++ tail))
+        → Claim (rest_of tt (with_temp x (by_name (Some v)) m.frame) m.w) m.w.turns (state q) q.before
+    by_name_none idle code0 =
+        let f = with_temp x (by_name (Some v)) m.frame in
+        let e = rest_of tt f m.w in
+        fetched e m q x v vs (give_code x 5 ++ tail) h.ready h.passed h.row_is h.above h.below code0
+        λ y means small ready code1. named e m (taken q x y) x y v tail ready refl small means idle h.above code1
+        λ s ready2 same ten code2. going (record m { frame = f }) s (record {
+          ready = ready2;
+          few = omega (arith, h.few);
+          fits = later_fits;
+          idle = later_idle f (λ z ne. temp_get m.frame x z (by_name (Some v)) lx ne);
+          passed = passed_stays p m.blocks q.memory s.memory row (x + 1) vs same h.passed.1;
+          row_is = ten ∙ h.row_is;
+          above = h.above;
+          below = omega (arith, h.below);
+        }) code2
+
+    abbrev n : ℕ
+    n = slice_index (block_sizes m.g) x
+
+    abbrev b : ℕ
+    b = length m.w.memory
+
+    abbrev with_it : Frame
+    with_it = slice_set m.frame x (in_block (Some b))
+
+    abbrev w1 : World
+    w1 = record m.w { memory = with_block m.w.memory n Local }
+
+    -- the block has begun, and its number is stored
+    by_stored : (after : Memory) → slice_get m.frame x ≡ Some (in_block None) → store_in w1.memory (P.Block b 0) r.access v ≡ Ok after
+        → Here ground p q.pc (fetch_code 5 10 (4 * x) ++ (keep_code r.access 5 2 (slice_index m.l.blocks x) ++ tail))
+        → Claim (rest_of tt with_it (record w1 { memory = after })) m.w.turns (state q) q.before
+    by_stored after idle is code0 =
+        let m1 = begun ground p m q h.ready x idle in
+        let ready1 = begun_ready ground p m q h.ready x idle in
+        let e = rest_of tt with_it (record w1 { memory = after }) in
+        let keep = keep_code r.access 5 2 (slice_index m.l.blocks x) in
+        let fresh : Extent = record { at = m.sp + slice_index m.l.blocks x; size = n } in
+        let passed = passed_more p m.blocks (fresh ∷ []) q.memory row x (v ∷ vs) h.passed in
+        let m2 : Moment = record m1 { w = record w1 { memory = after } } in
+        fetched e m1 q x v vs (keep ++ tail) ready1 passed h.row_is h.above h.below code0
+        λ y means small ready code1. placed_in e m1 (taken q x y) x y b v r.access after tail ready refl means
+        (set_same m.frame x (in_block (Some b)) (in_block None) idle) (last_kind m.w.memory n) is h.above code1
+        λ s ready2 same ten code2. going m2 s (record {
+          ready = ready2;
+          few = omega (arith, h.few);
+          fits = later_fits;
+          idle = later_idle with_it (λ z ne. set_other m.frame x z (in_block (Some b)) ne);
+          passed = passed_stays p (m.blocks ++ fresh ∷ []) q.memory s.memory row (x + 1) vs same passed.1;
+          row_is = ten ∙ h.row_is;
+          above = h.above;
+          below = omega (arith, h.below);
+        }) code2
+
+    by_store : slice_get m.frame x ≡ Some (in_block None)
+        → Here ground p q.pc (fetch_code 5 10 (4 * x) ++ (keep_code r.access 5 2 (slice_index m.l.blocks x) ++ tail))
+        → Claim (store place (P.Block b 0) r.access v rest_of with_it w1) m.w.turns (state q) q.before
+    by_store idle code0 =
+        by_tested ground p built Claim claims (store_in w1.memory (P.Block b 0) r.access v) place _ with_it w1 m.w.turns q
+        λ after is. subst (λ t. Claim (note_if t (E.stored b 0 (width_of r.access)) rest_of with_it (record w1 { memory = after })) m.w.turns (state q) q.before)
+        (sym (ap is_heap (last_kind m.w.memory n))) (by_stored after idle is code0)
+
+    by_room : slice_get m.frame x ≡ Some (in_block None)
+        → Here ground p q.pc (fetch_code 5 10 (4 * x) ++ (keep_code r.access 5 2 (slice_index m.l.blocks x) ++ tail)) → (t : Bool)
+        → Claim (cond t (out_of_room Live (live_bytes m.w.memory + n) m.w) (received place x r v (slice_get with_it x) rest_of with_it w1)) m.w.turns (state q) q.before
+    by_room idle code0 true = claims.out_of_room Live (live_bytes m.w.memory + n) m.w m.w.turns (state q) q.before
+    by_room idle code0 false =
+        subst (λ o. Claim (received place x r v o rest_of with_it w1) m.w.turns (state q) q.before)
+        (sym (set_same m.frame x (in_block (Some b)) (in_block None) idle)) (by_store idle code0)
+
+    by_sort : (t : Bool) → r.block ≡ t → slice_get m.frame x ≡ Some (empty_slot t)
+        → Here ground p q.pc (fetch_code 5 10 (4 * x) ++ (stored_code t ++ tail))
+        → Claim ((begin x t r.size >> (slot_now x >>= received place x r v)) rest_of m.frame m.w) m.w.turns (state q) q.before
+    by_sort false e idle code0 =
+        let f1 = slice_set m.frame x (by_name None) in
+        subst (λ o. Claim (received place x r v o rest_of f1 m.w) m.w.turns (state q) q.before) (sym (set_same m.frame x (by_name None) (by_name None) idle))
+        (subst (λ f. Claim (rest_of tt f m.w) m.w.turns (state q) q.before) (sym (set_is_temp m.frame x (by_name None) (by_name (Some v)) lx))
+        (by_name_none idle code0))
+    by_sort true e idle code0 =
+        let k = λ (i : ℕ). with_slot x (in_block (Some i)) (λ u f. received place x r v (slice_get f x) rest_of f) in
+        subst (λ o. Claim (end_slot x o (λ u. make r.size Local k) m.frame m.w) m.w.turns (state q) q.before) (sym idle)
+        (subst (λ z. Claim (make z Local k m.frame m.w) m.w.turns (state q) q.before) (sym (fits_x.size e).0)
+        (by_room idle code0 (m.w.is_limited && ltb greatest_live (live_bytes m.w.memory + n))))
+
+    one_parameter : Claim (receive place x (r ∷ rs) (v ∷ vs) (λ u f. next m.callers m.g m.more f) m.frame m.w) m.w.turns (state q) q.before
+    one_parameter = by_sort r.block refl at_x code'
+
+  pub by_parameters : (rs : List Parameter) (vs : List Value) (x : ℕ) → Going rs vs x
+  by_parameters [] [] x m q h code = follows m q h.ready code
+  by_parameters [] (v ∷ vs) x m q h code = follows m q h.ready code
+  by_parameters (r ∷ rs) [] x m q h code = absurd (let z = h.few in omega (arith, z))
+  by_parameters (r ∷ rs) (v ∷ vs) x m q h code = one_parameter r rs v vs x (by_parameters rs vs (x + 1)) m q h code
