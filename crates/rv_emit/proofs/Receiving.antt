@@ -133,9 +133,10 @@ module _ (ground : Ground) (p : Program) (built : IsBuilt ground p) (Claim : Cla
     pub fits : (i : ℕ) (r : Parameter) → slice_get rs i ≡ Some r → ParameterFits m.g (x + i) r
     pub idle : (i : ℕ) (r : Parameter) → slice_get rs i ≡ Some r → slice_get m.frame (x + i) ≡ Some (empty_slot r.block)
     pub passed : Passed p m.blocks q.memory row x vs
-    pub row_is : q.f 10 ≡ row
     pub above : m.sp + m.l.size ≤ row
-    pub below : row + 4 * (x + length vs) ≤ ground.room.stack_end
+    -- where there is a value
+    pub row_is : 0 < length vs → q.f 10 ≡ row
+    pub below : 0 < length vs → row + 4 * (x + length vs) ≤ ground.room.stack_end
 
   abbrev tail_of : Moment → (x : ℕ) → List Parameter → List Inst
   tail_of m x rs = parameters_code m.l x rs ++ steps_code p.places m.g m.l m.more
@@ -287,7 +288,7 @@ module _ (ground : Ground) (p : Program) (built : IsBuilt ground p) (Claim : Cla
     by_name_none idle code0 =
         let f = with_temp x (by_name (Some v)) m.frame in
         let e = rest_of tt f m.w in
-        fetched e m q x v vs (give_code x 5 ++ tail) h.ready h.passed h.row_is h.above h.below code0
+        fetched e m q x v vs (give_code x 5 ++ tail) h.ready h.passed (h.row_is (omega arith)) h.above (h.below (omega arith)) code0
         λ y means small ready code1. named e m (taken q x y) x y v tail ready refl small means idle h.above code1
         λ s ready2 same ten code2. going (record m { frame = f }) s (record {
           ready = ready2;
@@ -295,9 +296,9 @@ module _ (ground : Ground) (p : Program) (built : IsBuilt ground p) (Claim : Cla
           fits = later_fits;
           idle = later_idle f (λ z ne. temp_get m.frame x z (by_name (Some v)) lx ne);
           passed = passed_stays p m.blocks q.memory s.memory row (x + 1) vs same h.passed.1;
-          row_is = ten ∙ h.row_is;
           above = h.above;
-          below = omega (arith, h.below);
+          row_is = λ lt. ten ∙ h.row_is (omega arith);
+          below = λ lt. omega (arith, h.below (omega arith));
         }) code2
 
     abbrev n : ℕ
@@ -324,7 +325,7 @@ module _ (ground : Ground) (p : Program) (built : IsBuilt ground p) (Claim : Cla
         let fresh : Extent = record { at = m.sp + slice_index m.l.blocks x; size = n } in
         let passed = passed_more p m.blocks (fresh ∷ []) q.memory row x (v ∷ vs) h.passed in
         let m2 : Moment = record m1 { w = record w1 { memory = after } } in
-        fetched e m1 q x v vs (keep ++ tail) ready1 passed h.row_is h.above h.below code0
+        fetched e m1 q x v vs (keep ++ tail) ready1 passed (h.row_is (omega arith)) h.above (h.below (omega arith)) code0
         λ y means small ready code1. placed_in e m1 (taken q x y) x y b v r.access after tail ready refl means
         (set_same m.frame x (in_block (Some b)) (in_block None) idle) (last_kind m.w.memory n) is h.above code1
         λ s ready2 same ten code2. going m2 s (record {
@@ -333,9 +334,9 @@ module _ (ground : Ground) (p : Program) (built : IsBuilt ground p) (Claim : Cla
           fits = later_fits;
           idle = later_idle with_it (λ z ne. set_other m.frame x z (in_block (Some b)) ne);
           passed = passed_stays p (m.blocks ++ fresh ∷ []) q.memory s.memory row (x + 1) vs same passed.1;
-          row_is = ten ∙ h.row_is;
           above = h.above;
-          below = omega (arith, h.below);
+          row_is = λ lt. ten ∙ h.row_is (omega arith);
+          below = λ lt. omega (arith, h.below (omega arith));
         }) code2
 
     by_store : slice_get m.frame x ≡ Some (in_block None)

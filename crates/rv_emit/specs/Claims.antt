@@ -1,21 +1,24 @@
 -- What is claimed of the machine where a run comes to an end.
-use Rattle.std.specs.Prelude.{◌≡◌, ℕ, ◌≤◌, List}
+use Rattle.std.specs.Prelude.{◌≡◌, ℕ, ◌+◌, ◌≤◌, List, ◌∷◌}
 use Rattle.lay_base.specs.declared.faults.RoomKind.{RoomKind}
 use Rattle.lay_base.specs.declared.faults.UndefinedKind.{UndefinedKind}
 use Rattle.lay_base.specs.declared.place.Place.{Place}
-use Rattle.block_memory.specs.RunWorlds.Events.{output_of}
+use Rattle.block_memory.specs.RunWorlds.Events.{entered, output_of}
 use Rattle.block_memory.specs.RunWorlds.Worlds.{World, End, ends, goes_on, undefined, out_of_room}
 use Rattle.rv_isa.specs.Step.{State, Ends, Running, Exits, step}
 use Rattle.rv_isa.specs.Run.{run}
 use Rattle.rv_isa.specs.Events.{MachineEvent, events}
 use Rattle.rv_steps.specs.States.{at, later, IsBackward}
-use Rattle.rv_code.specs.Code.{steps_code}
+use Rattle.block_memory.specs.declared.run_worlds.value.Value.{Value}
+use Rattle.rv_code.specs.Code.{stack_place, steps_code}
+use Rattle.rv_code.specs.declared.layout.Layout.{Layout}
+use Rattle.tac_ir.specs.Code.{RoutineData}
 use Rattle.rv_isa.specs.Step.{Standing}
 use Rattle.agreement.specs.Agreement.{shows}
-use Rattle.tac_ir.specs.Running.{Next}
+use Rattle.tac_ir.specs.Running.{Caller, Next, body}
 use Rattle.rv_emit.specs.Maps.{Extents}
 use Rattle.rv_emit.specs.Grounds.{Ground}
-use Rattle.rv_emit.specs.Relation.{Program, Moment, Point, Ready, Here, IsMade}
+use Rattle.rv_emit.specs.Relation.{Program, Moment, Point, Ready, Here, IsLaid, IsMade}
 
 -- what is claimed of an end, of a state with at least so many steps to come, behind some events
 abbrev pub Claims : Type 1
@@ -40,6 +43,13 @@ module _ (ground : Ground) (p : Program) where
   abbrev pub Follows : Claims → Next → Type 0
   Follows Claim next = (m : Moment) (q : Point) → Ready ground p m q → Here ground p q.pc (steps_code p.places m.g m.l m.more)
       → Claim (next m.callers m.g m.more m.frame m.w) m.w.turns (state q) q.before
+
+  -- what is claimed of a run behind the entry of a function may be proved where the stack has room for its frame below the one that is last
+  abbrev pub CallsHaveRoom : Claims → Next → Type 0
+  CallsHaveRoom Claim next = (m : Moment) (q : Point) → Ready ground p m q → (k : ℕ) (g : RoutineData) (l : Layout) → IsLaid ground p k g l
+      → (place : Place) (callers : List Caller) (all : List Value) (w : World) → w.trace ≡ entered k ∷ m.w.trace → (n : ℕ) (s : State) (before : List MachineEvent)
+      → (stack_place + l.size ≤ m.sp → Claim (body p.types p.code next place callers g g.code all w) n s before)
+      → Claim (body p.types p.code next place callers g g.code all w) n s before
 
   -- ---- what is claimed
 

@@ -1,10 +1,11 @@
 -- What code must be so that its instructions do what its steps do: its numbers are words, it speaks of what is there, and blocks of locals have one size.
-use Rattle.std.specs.Prelude.{◌≡◌, ℕ, ◌+◌, ◌<◌, ◌≤◌, ◌^◌, List, [], ◌∷◌, length, All, Option, Some, None, slice_index, get_or}
+use Rattle.std.specs.Prelude.{◌≡◌, ◌≢◌, ℕ, ◌+◌, ◌<◌, ◌≤◌, ◌^◌, true, List, [], ◌∷◌, length, All, Option, Some, None, slice_get, slice_index, get_or}
 use Rattle.tac_ir.specs.Code.{Code, RoutineData}
 use Rattle.tac_ir.specs.Jumps.{LeadsInsideIfAny, target_of}
 use Rattle.tac_ir.specs.Kinds.{KeepsKinds, taken_by}
 use Rattle.tac_ir.specs.declared.step.Operand.{Operand}
 use Rattle.tac_ir.specs.declared.step.Operand.TheVariants as O
+use Rattle.tac_ir.specs.declared.step.Row.{Row}
 use Rattle.tac_ir.specs.declared.step.Step.{Step}
 use Rattle.tac_ir.specs.declared.step.Step.TheVariants as S
 use Rattle.rv_code.specs.Frames.{block_sizes, slots}
@@ -56,7 +57,24 @@ NumbersFit g (S.Zeros x size) = size ≤ slice_index (block_sizes g) x
 NumbersFit g (S.Text x by n) = by + length (get_or g.texts n []) ≤ slice_index (block_sizes g) x
 NumbersFit g s = Unit {0}
 
+-- the temporaries of a call's arguments
+abbrev pub row_of : Step → Option Row
+row_of (S.Call t at f all) = Some all
+row_of (S.CallThrough t at ty a all) = Some all
+row_of (S.Library t at which all) = Some all
+row_of s = None
+
+-- they are words: a local that lies in a block has its address in none
+abbrev pub RowFitsIfAny : RoutineData → Option Row → Type 0
+RowFitsIfAny g None = Unit {0}
+RowFitsIfAny g (Some all) = (t : ℕ) → all.first ≤ t → t < all.first + all.count → slice_get g.locals t ≢ Some true
+
 module _ (c : Code) (p : Places) where
+  -- a function gets as many arguments as it has parameters; by a pointer, its type says how many
+  abbrev pub ArgumentsFit : Step → Type 0
+  ArgumentsFit (S.Call t at f all) = (g : RoutineData) → slice_get c.routines f ≡ Some g → length g.parameters ≡ all.count
+  ArgumentsFit s = Unit {0}
+
   -- an operand's number is a word, its function has a body, its object is there
   abbrev pub OperandFits : Operand → Type 0
   OperandFits (O.Word n) = n < 2 ^ 32
@@ -71,6 +89,8 @@ module _ (c : Code) (p : Places) where
     pub kinds : KeepsKinds g.locals s
     pub target : LeadsInsideIfAny g (target_of s)
     pub slot : HasSlotIfAny g (taken_by s)
+    pub row : RowFitsIfAny g (row_of s)
+    pub arguments : ArgumentsFit s
 
   abbrev pub CodeFits : RoutineData → List Step → Type 0
   CodeFits g code = All (StepFits g) code
