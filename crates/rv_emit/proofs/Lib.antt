@@ -31,3 +31,4 @@ pub mod Leaving
 pub mod Returning
 pub mod Entering
 pub mod Receiving
+pub mod Calls
