@@ -38,7 +38,7 @@ behind q f is = record q { f = f; pc = q.pc + 4 * length is }
 module _ (ground : Ground) (p : Program) (built : IsBuilt ground p) (Claim : Claims) (claims : AreClaims ground p Claim) where
   -- a step's instructions with what follows them, and the claim on the step
   abbrev pub Works : Next → Moment → Point → Step → Type 0
-  Works next m q s = Here ground p q.pc (step_code p.places m.g m.l s ++ steps_code p.places m.g m.l m.more) → StepFits p.code p.places m.g s
+  Works next m q s = Here ground p q.pc (step_code p.places m.g m.l s ++ steps_code p.places m.g m.l m.more) → StepFits p.types p.code p.places m.g s
       → Claim (does p.types p.code next m.callers m.g s m.more m.frame m.w) m.w.turns (state q) q.before
 
   -- the goal of an end does not know where the machine stands

@@ -154,7 +154,7 @@ module _ (ground : Ground) (p : Program) (built : IsBuilt ground p) (Claim : Cla
   runs zero m q ready code = claims.undefined Undefined.Call no_place m.w m.w.turns (state q) q.before
   runs (suc n) m q ready code = by_steps m.more (runs n) ready.fits code
     where
-      by_steps : (steps : List Step) → Follows ground p Claim (go p.types p.code n) → CodeFits p.code p.places m.g steps
+      by_steps : (steps : List Step) → Follows ground p Claim (go p.types p.code n) → CodeFits p.types p.code p.places m.g steps
           → Here ground p q.pc (steps_code p.places m.g m.l steps)
           → Claim (go p.types p.code (suc n) m.callers m.g steps m.frame m.w) m.w.turns (state q) q.before
       by_steps [] follows fits code = claims.undefined Undefined.Call no_place m.w m.w.turns (state q) q.before

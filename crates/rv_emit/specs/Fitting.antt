@@ -1,8 +1,11 @@
 -- What code must be so that its instructions do what its steps do: its numbers are words, it speaks of what is there, and blocks of locals have one size.
 use Rattle.std.specs.Prelude.{◌≡◌, ◌≢◌, ℕ, ◌+◌, ◌<◌, ◌≤◌, ◌^◌, true, List, [], ◌∷◌, length, All, Option, Some, None, slice_get, slice_index, get_or}
+use Rattle.c_types.specs.Sameness.{same_type}
+use Rattle.c_types.specs.Types.{CType, pointer as pointer_to}
 use Rattle.tac_ir.specs.Code.{Code, RoutineData}
 use Rattle.tac_ir.specs.Jumps.{LeadsInsideIfAny, target_of}
 use Rattle.tac_ir.specs.Kinds.{KeepsKinds, taken_by}
+use Rattle.tac_ir.specs.Running.{type_in}
 use Rattle.tac_ir.specs.declared.step.Operand.{Operand}
 use Rattle.tac_ir.specs.declared.step.Operand.TheVariants as O
 use Rattle.tac_ir.specs.declared.step.Row.{Row}
@@ -70,11 +73,6 @@ RowFitsIfAny g None = Unit {0}
 RowFitsIfAny g (Some all) = (t : ℕ) → all.first ≤ t → t < all.first + all.count → slice_get g.locals t ≢ Some true
 
 module _ (c : Code) (p : Places) where
-  -- a function gets as many arguments as it has parameters; by a pointer, its type says how many
-  abbrev pub ArgumentsFit : Step → Type 0
-  ArgumentsFit (S.Call t at f all) = (g : RoutineData) → slice_get c.routines f ≡ Some g → length g.parameters ≡ all.count
-  ArgumentsFit s = Unit {0}
-
   -- an operand's number is a word, its function has a body, its object is there
   abbrev pub OperandFits : Operand → Type 0
   OperandFits (O.Word n) = n < 2 ^ 32
@@ -83,8 +81,16 @@ module _ (c : Code) (p : Places) where
   OperandFits (O.Object n) = n < length p.objects
   OperandFits (O.Temp kind t at) = Unit {0}
 
+module _ (types : List CType) (c : Code) (p : Places) where
+  -- a function gets as many arguments as it has parameters, by whatever pointer of its type
+  abbrev pub ArgumentsFit : Step → Type 0
+  ArgumentsFit (S.Call t at f all) = (g : RoutineData) → slice_get c.routines f ≡ Some g → length g.parameters ≡ all.count
+  ArgumentsFit (S.CallThrough t at ty a all) = (f : ℕ) (g : RoutineData) → slice_get c.routines f ≡ Some g
+      → same_type (type_in types ty) (pointer_to (type_in types g.ty)) ≡ true → length g.parameters ≡ all.count
+  ArgumentsFit s = Unit {0}
+
   pub record StepFits (g : RoutineData) (s : Step) : Type 0 where
-    pub operands : All OperandFits (operands_of s)
+    pub operands : All (OperandFits c p) (operands_of s)
     pub numbers : NumbersFit g s
     pub kinds : KeepsKinds g.locals s
     pub target : LeadsInsideIfAny g (target_of s)

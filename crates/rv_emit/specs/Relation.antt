@@ -94,14 +94,14 @@ module _ (ground : Ground) (p : Program) where
   pub record Lands (g : RoutineData) (l : Layout) (pc : ℕ) (rest : List Step) : Type 0 where
     pub place : IsPlace pc
     pub stands : Here pc (steps_code p.places g l rest)
-    pub fits : CodeFits p.code p.places g rest
+    pub fits : CodeFits p.types p.code p.places g rest
 
   -- a function whose code stands by a layout
   pub record IsLaid (number : ℕ) (g : RoutineData) (l : Layout) : Type 0 where
     pub is : slice_get p.code.routines number ≡ Some g
     pub entry : IsPlace (slice_index p.places.entries number)
     pub stands : Here (slice_index p.places.entries number) (function_code p.places g l)
-    pub fits : CodeFits p.code p.places g g.code
+    pub fits : CodeFits p.types p.code p.places g g.code
     pub lands : (to : Target) → LeadsInside g to → Lands g l (place_led g l to) (led g to)
     pub blocks : l.blocks ≡ block_places g
     pub size : l.size ≡ frame_size g
@@ -153,7 +153,7 @@ module _ (ground : Ground) (p : Program) where
         × Framed number one.routine l one.frame sp
         × IsPlace back
         × Here back (give_code one.to 10 ++ steps_code p.places one.routine l one.more)
-        × CodeFits p.code p.places one.routine one.more
+        × CodeFits p.types p.code p.places one.routine one.more
         × (one.to < slots one.routine)
         × (is_block one.routine one.to ≡ false)
         × Callers numbers more (sp + l.size) (word_at memory sp)
@@ -204,7 +204,7 @@ module _ (ground : Ground) (p : Program) where
     pub stack : q.f 2 ≡ m.sp
     pub code : code_address ≤ q.pc
     pub whole : q.pc % 4 ≡ 0
-    pub fits : CodeFits p.code p.places m.g m.more
+    pub fits : CodeFits p.types p.code p.places m.g m.more
     pub world : Worldly m.blocks m.owner m.w q.memory q.input q.output q.before
     pub frame : Framed m.blocks m.owner q.memory m.number m.g m.l m.frame m.sp
     pub callers : Callers m.blocks m.owner q.memory m.numbers m.callers (m.sp + m.l.size) (word_at q.memory m.sp)
