@@ -10,9 +10,12 @@ use Rattle.lay_base.specs.declared.place.Place.{Place}
 use Rattle.memory_words.specs.declared.cell_words.pointer.Ptr.TheVariants as P
 use Rattle.block_memory.specs.RunWorlds.Doing.{descend, enter, turn_of}
 use Rattle.block_memory.specs.RunWorlds.Events as E
-use Rattle.block_memory.specs.RunWorlds.Worlds.{World, End, greatest_depth, out_of_room}
+use Rattle.block_memory.specs.RunWorlds.Scalars.{pointer_of}
+use Rattle.block_memory.specs.RunWorlds.Worlds.{World, End, greatest_depth, out_of_room, undefined}
 use Rattle.block_memory.specs.declared.run_worlds.value.Value.{Value}
 use Rattle.block_memory.specs.declared.run_worlds.value.Value.TheVariants.{Word as word, Pointer as pointer}
+use Rattle.c_types.specs.Sameness.{same_type}
+use Rattle.c_types.specs.Types.{pointer as pointer_to}
 use Rattle.c_meaning.specs.Frames.{Frame}
 use Rattle.c_meaning.specs.declared.frame.Slot.{Slot}
 use Rattle.c_meaning.specs.declared.frame.Slot.TheVariants.{ByName as by_name, InBlock as in_block}
@@ -23,13 +26,14 @@ use Rattle.rv_isa.specs.Events.{code_address}
 use Rattle.rv_isa.specs.Memory.{with_word, word_at}
 use Rattle.rv_steps.specs.States.{Code, at, code_end, put}
 use Rattle.rv_steps.proofs.Operators.{by_binary, by_branch_taken, by_jalr_linked, is_bgeu, is_sub}
-use Rattle.rv_code.specs.Code.{a_word, code_if_any, entry_code, give_code, is_block, parameters_code, row_code, stack_place, steps_code}
+use Rattle.rv_code.specs.Code.{a_word, code_if_any, entry_code, get_code, give_code, is_block, parameters_code, row_code, stack_place, steps_code}
 use Rattle.rv_code.specs.Frames.{slot_at, slots}
 use Rattle.rv_code.specs.Words.{address_code, call_code, keep_code, number_code}
 use Rattle.rv_code.specs.declared.layout.Layout.{Layout}
 use Rattle.tac_ir.specs.Code.{RoutineData}
-use Rattle.tac_ir.specs.Running.{Caller, Next, body, calls, empty_slot, read_row, receive}
+use Rattle.tac_ir.specs.Running.{Caller, Next, body, calls, calls_through, calls_typed, empty_slot, type_in, read_row, receive}
 use Rattle.tac_ir.specs.declared.step.Parameter.{Parameter}
+use Rattle.tac_ir.specs.declared.step.Operand.{Operand}
 use Rattle.tac_ir.specs.declared.step.Row.{Row}
 use Rattle.tac_ir.specs.declared.step.Step.{Step}
 use Rattle.tac_ir.specs.declared.step.Step.TheVariants as S
@@ -45,7 +49,7 @@ use Rattle.rv_emit.proofs.Lists.{get_below}
 use Rattle.rv_emit.proofs.Moves.{by_address, by_call, by_keep, by_number, code_back, code_front, parts}
 use Rattle.rv_emit.proofs.Plain.{Works, aim, open_is}
 use Rattle.rv_emit.proofs.Receiving.{Passed, by_parameters, passed_stays}
-use Rattle.rv_emit.proofs.Values.{by_held}
+use Rattle.rv_emit.proofs.Values.{Reads, by_get, by_held, by_read, with_register}
 
 -- ---- a row that is read
 
@@ -299,3 +303,73 @@ module _ (ground : Ground) (p : Program) (built : IsBuilt ground p) (Claim : Cla
                 code = back_code;
                 row = ten;
               }))
+
+    -- ---- calls through a pointer
+
+    pub call_through_works : (m : Moment) (q : Point) → Ready ground p m q → (t : ℕ) (place : Place) (ty : ℕ) (a : Operand) (all : Row)
+        → Works ground p built Claim claims next m q (S.CallThrough t place ty a all)
+    call_through_works m q ready t place ty a all code fits =
+        by_read ground p built Claim claims a _ m.frame m.w m.w.turns q
+        λ v reads_v. by_row place all.first all.count _ m.frame m.w m.w.turns q
+        λ vs long reads. by_value v reads_v vs long reads
+      where
+        call_known : (k : ℕ) → Reads m.frame a (pointer (P.Function k)) → (vs : List Value) → length vs ≡ all.count → RowReads m.frame all.first vs → (g : RoutineData)
+            → slice_get p.code.routines k ≡ Some g → same_type (type_in p.types ty) (pointer_to (type_in p.types g.ty)) ≡ true
+            → Claim (calls p.types p.code next place k (record { to = t; routine = m.g; more = m.more; frame = m.frame } ∷ m.callers) (Some g) vs m.frame m.w) m.w.turns
+            (state q) q.before
+        call_known k reads_v vs long reads g is same =
+            let few : length g.parameters ≤ length vs = (let h = fits.arguments k g is same in omega (arith, long)) in
+            called m q ready place k t all g vs is fits.slot (open_is m.g.locals t fits.kinds.0) few long fits.row reads
+            λ e n entry some c.
+            let give = give_code t 10 in
+            let rest = steps_code p.places m.g m.l m.more in
+            let row = row_code all in
+            let get = get_code p.places m.g m.l 5 a in
+            let d = parts ground q.pc get (row ++ (Jalr 1 5 (pos 0) ∷ give)) rest code in
+            by_get ground p built Claim claims m q ready e n 5 (omega arith) (omega arith) a (pointer (P.Function k)) reads_v (fits.operands 0 a (omega arith)) d.0
+            λ x means small ready_x.
+            let q_x = with_register q 5 x get in
+            let d_x = subst (Here ground p q_x.pc) (append_assoc row (Jalr 1 5 (pos 0) ∷ give) rest) d.1 in
+            by_row_code m q_x ready_x e n all.first (Jalr 1 5 (pos 0) ∷ (give ++ rest)) d_x
+            λ f ten five ready' code'.
+            let pc = q_x.pc + 4 * length row in
+            let to = slice_index p.places.entries k in
+            let back = pc + 4 in
+            let f' = put f 1 back in
+            let below = back_below back t rest code'.1 in
+            let at_x : f 5 ≡ x = five in
+            let jumps : plus (f 5) (pos 0) / 2 * 2 ≡ to = omega (arith, ints, at_x, means.1, entry.small, entry.whole) in
+            (claims.backward e).fewer n (at f pc q.memory q.input q.output) q.before
+            (by_jalr_linked ground.segments ground.text (Claim e) (claims.backward e) f pc q.memory q.input q.output ready.world.keeps ready'.code n q.before to entry.whole
+            entry.code 1 5 (pos 0) code'.0 (omega arith) (omega arith) jumps
+            (c back (record q { f = f'; pc = to }) (record {
+              ready = elsewhere ground p m (record q { f = f; pc = pc }) ready' f' to refl refl entry.code entry.whole;
+              entry = refl;
+              one = refl;
+              place = record { code = omega (arith, ready'.code); whole = omega (arith, ready'.whole); small = omega arith };
+              code = code'.1;
+              row = ten;
+            })))
+
+        by_type : (k : ℕ) → Reads m.frame a (pointer (P.Function k)) → (vs : List Value) → length vs ≡ all.count → RowReads m.frame all.first vs → (g : RoutineData)
+            → slice_get p.code.routines k ≡ Some g → (same : Bool) → same_type (type_in p.types ty) (pointer_to (type_in p.types g.ty)) ≡ same
+            → Claim (cond same (calls p.types p.code next place k (record { to = t; routine = m.g; more = m.more; frame = m.frame } ∷ m.callers) (Some g) vs m.frame m.w)
+            (undefined K.Call place m.w)) m.w.turns (state q) q.before
+        by_type k reads_v vs long reads g is true same = call_known k reads_v vs long reads g is same
+        by_type k reads_v vs long reads g is false same = claims.undefined K.Call place m.w m.w.turns (state q) q.before
+
+        by_function : (k : ℕ) → Reads m.frame a (pointer (P.Function k)) → (vs : List Value) → length vs ≡ all.count → RowReads m.frame all.first vs
+            → (o : Option RoutineData) → slice_get p.code.routines k ≡ o
+            → Claim (calls_typed p.types p.code next place (type_in p.types ty) k (record { to = t; routine = m.g; more = m.more; frame = m.frame } ∷ m.callers) o vs
+            m.frame m.w) m.w.turns (state q) q.before
+        by_function k reads_v vs long reads None is = claims.undefined K.Call place m.w m.w.turns (state q) q.before
+        by_function k reads_v vs long reads (Some g) is =
+            by_type k reads_v vs long reads g is (same_type (type_in p.types ty) (pointer_to (type_in p.types g.ty))) refl
+
+        by_value : (v : Value) → Reads m.frame a v → (vs : List Value) → length vs ≡ all.count → RowReads m.frame all.first vs
+            → Claim (calls_through p.types p.code next place (type_in p.types ty) (pointer_of v)
+            (record { to = t; routine = m.g; more = m.more; frame = m.frame } ∷ m.callers) vs m.frame m.w) m.w.turns (state q) q.before
+        by_value (word n) reads_v vs long reads = claims.undefined K.Call place m.w m.w.turns (state q) q.before
+        by_value (pointer P.Null) reads_v vs long reads = claims.undefined K.Call place m.w m.w.turns (state q) q.before
+        by_value (pointer (P.Block b i)) reads_v vs long reads = claims.undefined K.Call place m.w m.w.turns (state q) q.before
+        by_value (pointer (P.Function k)) reads_v vs long reads = by_function k reads_v vs long reads (slice_get p.code.routines k) refl
