@@ -1,14 +1,13 @@
 -- Calls: the row's address, the way to the callee, its entry, and its parameters.
 use Rattle.std.proofs.Common.{◌≡◌, ◌≢◌, ℕ, zero, suc, ◌+◌, ◌-◌, ◌*◌, ◌/◌, ◌%◌, ◌^◌, ◌<◌, ◌≤◌, ◌⊎◌, inl, inr, Bool, true, false, cond, not, ltb, ◌&&◌, List, [], ◌∷◌, ◌++◌, length, map, Option, Some, None, pos}
 use Rattle.std.proofs.Common.{slice_get, slice_index, refl, ap, sym, ◌∙◌, subst, arith, append_assoc, le-ltb}
-use Rattle.std.specs.Prelude.{unwrap_or}
 use Rattle.std.proofs.lemmas.Int.{ints}
 use Rattle.std.proofs.lemmas.Bool.{cond_both}
 use Rattle.lay_base.specs.declared.faults.RoomKind.TheVariants.{Depth}
 use Rattle.lay_base.specs.declared.faults.UndefinedKind.TheVariants as K
 use Rattle.lay_base.specs.declared.place.Place.{Place}
 use Rattle.memory_words.specs.declared.cell_words.pointer.Ptr.TheVariants as P
-use Rattle.block_memory.specs.RunWorlds.Doing.{descend, enter, turn_of}
+use Rattle.block_memory.specs.RunWorlds.Doing.{descend, turn_of}
 use Rattle.block_memory.specs.RunWorlds.Events as E
 use Rattle.block_memory.specs.RunWorlds.Scalars.{pointer_of}
 use Rattle.block_memory.specs.RunWorlds.Worlds.{World, End, greatest_depth, out_of_room, undefined}
@@ -17,14 +16,12 @@ use Rattle.block_memory.specs.declared.run_worlds.value.Value.TheVariants.{Word 
 use Rattle.c_types.specs.Sameness.{same_type}
 use Rattle.c_types.specs.Types.{pointer as pointer_to}
 use Rattle.c_meaning.specs.Frames.{Frame}
-use Rattle.c_meaning.specs.declared.frame.Slot.{Slot}
 use Rattle.c_meaning.specs.declared.frame.Slot.TheVariants.{ByName as by_name, InBlock as in_block}
 use Rattle.rv_isa.specs.declared.instruction.Inst.{Inst}
 use Rattle.rv_isa.specs.declared.instruction.Inst.TheVariants.{Bgeu, Ebreak, Jalr, Sub}
 use Rattle.rv_isa.specs.Arithmetic.{difference, plus}
-use Rattle.rv_isa.specs.Events.{code_address}
 use Rattle.rv_isa.specs.Memory.{with_word, word_at}
-use Rattle.rv_steps.specs.States.{Code, at, code_end, put}
+use Rattle.rv_steps.specs.States.{at, code_end, put}
 use Rattle.rv_steps.proofs.Operators.{by_binary, by_branch_taken, by_jalr_linked, is_bgeu, is_sub}
 use Rattle.rv_code.specs.Code.{a_word, code_if_any, entry_code, get_code, give_code, is_block, parameters_code, row_code, stack_place, steps_code}
 use Rattle.rv_code.specs.Frames.{slot_at, slots}
@@ -32,7 +29,6 @@ use Rattle.rv_code.specs.Words.{address_code, call_code, keep_code, number_code}
 use Rattle.rv_code.specs.declared.layout.Layout.{Layout}
 use Rattle.tac_ir.specs.Code.{RoutineData}
 use Rattle.tac_ir.specs.Running.{Caller, Next, body, calls, calls_through, calls_typed, empty_slot, type_in, read_row, receive}
-use Rattle.tac_ir.specs.declared.step.Parameter.{Parameter}
 use Rattle.tac_ir.specs.declared.step.Operand.{Operand}
 use Rattle.tac_ir.specs.declared.step.Row.{Row}
 use Rattle.tac_ir.specs.declared.step.Step.{Step}
@@ -42,7 +38,7 @@ use Rattle.rv_emit.specs.Grounds.{Ground}
 use Rattle.rv_emit.specs.Fitting.{RowFitsIfAny}
 use Rattle.rv_emit.specs.Relation.{Program, Moment, ParameterFits, Point, Ready, Here, IsBuilt, IsLaid, IsPlace}
 use Rattle.rv_emit.specs.Claims.{Claims, AreClaims, CallsHaveRoom, Follows, state}
-use Rattle.rv_emit.proofs.Entering.{empty_at, entered_moment, entered_ready, waits, world_entered}
+use Rattle.rv_emit.proofs.Entering.{empty_at, entered_moment, entered_ready}
 use Rattle.rv_emit.proofs.Giving.{elsewhere, word_elsewhere}
 use Rattle.rv_emit.proofs.Keeping.{frame_end}
 use Rattle.rv_emit.proofs.Lists.{get_below}

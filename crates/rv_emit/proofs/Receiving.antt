@@ -1,9 +1,8 @@
 -- Parameters: each comes from its word of the row into its slot, or into its block.
-use Rattle.std.proofs.Common.{◌≡◌, ◌≢◌, ℕ, zero, suc, ◌+◌, ◌*◌, ◌%◌, ◌^◌, ◌<◌, ◌≤◌, ◌⊎◌, inl, inr, Bool, true, false, cond, ltb, ◌&&◌, List, [], ◌∷◌, ◌++◌, length, Option, Some, None, Ok, pos}
-use Rattle.std.proofs.Common.{slice_get, slice_set, slice_index, refl, ap, sym, ◌∙◌, subst, arith, append_assoc, length-set, ltb-true}
+use Rattle.std.proofs.Common.{◌≡◌, ◌≢◌, ℕ, zero, suc, ◌+◌, ◌*◌, ◌%◌, ◌^◌, ◌<◌, ◌≤◌, inl, inr, Bool, true, false, cond, ltb, ◌&&◌, List, [], ◌∷◌, ◌++◌, length, Option, Some, None, Ok, pos}
+use Rattle.std.proofs.Common.{slice_get, slice_set, slice_index, refl, ap, sym, ◌∙◌, subst, arith, append_assoc, ltb-true}
 use Rattle.std.specs.Prelude.{unwrap_or, ℤ}
 use Rattle.std.proofs.lemmas.Bool.{cond_both}
-use Rattle.std.proofs.lemmas.List.{length-replicate}
 use Rattle.lay_base.specs.declared.faults.RoomKind.TheVariants.{Live}
 use Rattle.lay_base.specs.declared.place.Place.{Place}
 use Rattle.memory_words.specs.declared.cell_words.pointer.Ptr.TheVariants as P
@@ -11,9 +10,9 @@ use Rattle.block_memory.specs.Blocks.{Memory, Block, kind, ended}
 use Rattle.block_memory.specs.declared.kinds.Access.{Access}
 use Rattle.block_memory.specs.declared.kinds.BlockKind.TheVariants.{Local}
 use Rattle.block_memory.specs.Lifetimes.{is_heap, with_block}
-use Rattle.block_memory.specs.RunWorlds.Doing.{◌>>=◌, ◌>>◌, make, tested, memory_now, with_memory}
+use Rattle.block_memory.specs.RunWorlds.Doing.{◌>>=◌, ◌>>◌, make}
 use Rattle.block_memory.specs.RunWorlds.Events as E
-use Rattle.block_memory.specs.RunWorlds.Scalars.{note_if, note_in, store, store_in, width_of}
+use Rattle.block_memory.specs.RunWorlds.Scalars.{note_if, store, store_in, width_of}
 use Rattle.block_memory.specs.RunWorlds.Worlds.{World, End, greatest_live, live_bytes, out_of_room}
 use Rattle.block_memory.specs.declared.run_worlds.value.Value.{Value}
 use Rattle.c_meaning.specs.Frames.{Frame, slot_now, with_slot}
@@ -26,9 +25,9 @@ use Rattle.rv_isa.specs.Memory as M
 use Rattle.rv_isa.specs.Memory.{are_mapped, word_at, with_word, writable}
 use Rattle.rv_steps.specs.States.{Code, Keeps, Stands, at, put}
 use Rattle.rv_steps.proofs.Operators.{by_store_of}
-use Rattle.rv_steps.proofs.Registers.{put_other, put_same}
+use Rattle.rv_steps.proofs.Registers.{put_other}
 use Rattle.rv_steps.proofs.Words.{word_fits, word_same}
-use Rattle.rv_code.specs.Code.{give_code, is_block, parameter_code, parameters_code, steps_code}
+use Rattle.rv_code.specs.Code.{give_code, is_block, parameters_code, steps_code}
 use Rattle.rv_code.specs.Frames.{block_places, block_sizes, frame_size, slot_at, slots}
 use Rattle.rv_code.specs.Words.{fetch_code, keep_code, lower, store_by, upper}
 use Rattle.tac_ir.specs.Running.{Next, begin, empty_slot, end_slot, receive, received, with_temp}
@@ -37,14 +36,14 @@ use Rattle.rv_emit.specs.Maps.{Extent, Extents, Means}
 use Rattle.rv_emit.specs.Grounds.{Ground}
 use Rattle.rv_emit.specs.Relation.{Program, Moment, ParameterFits, Point, Ready, Here, IsBuilt}
 use Rattle.rv_emit.specs.Claims.{Claims, AreClaims, Follows, state}
-use Rattle.rv_emit.proofs.Accesses.{Stored, access_stored, store_is, stored_is, with_access}
+use Rattle.rv_emit.proofs.Accesses.{access_stored, store_is, stored_is, with_access}
 use Rattle.rv_emit.proofs.Beginning.{begun, begun_ready, block_known}
 use Rattle.rv_emit.proofs.Giving.{elsewhere, given, slot_place, word_elsewhere}
 use Rattle.rv_emit.proofs.Growing.{means_more}
 use Rattle.rv_emit.proofs.Keeping.{frame_end}
 use Rattle.rv_emit.proofs.Lists.{get_below, get_last, place_within, set_other, set_same}
 use Rattle.rv_emit.proofs.Loading.{lies, whole_at, wide}
-use Rattle.rv_emit.proofs.Moves.{Goal, Shown, by_add, by_fetch, by_keep, by_lui, code_back, code_front, far_value, here, near_value, parts}
+use Rattle.rv_emit.proofs.Moves.{Goal, Shown, by_add, by_fetch, by_keep, by_lui, code_back, code_front, far_value, here, near_value}
 use Rattle.rv_emit.proofs.Plain.{aim}
 use Rattle.rv_emit.proofs.Storing.{stored}
 use Rattle.rv_emit.proofs.Values.{by_tested}

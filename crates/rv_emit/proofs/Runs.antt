@@ -18,9 +18,10 @@ use Rattle.rv_emit.specs.Maps.{Extents}
 use Rattle.rv_emit.specs.Grounds.{Ground}
 use Rattle.rv_emit.specs.Fitting.{CodeFits}
 use Rattle.rv_emit.specs.Relation.{Program, Moment, Point, Ready, Here, IsBuilt, IsMade}
-use Rattle.rv_emit.specs.Claims.{AreClaims, Claim as Claimed, Claims, Comes, Follows, state}
+use Rattle.rv_emit.specs.Claims.{AreClaims, CallsHaveRoom, Claim as Claimed, Claims, Comes, Follows, state}
 use Rattle.rv_emit.proofs.Beginning.{begin_works}
 use Rattle.rv_emit.proofs.Calculating.{binary_works, convert_works, not_works, number_works, pointer_works, unary_works}
+use Rattle.rv_emit.proofs.Calls.{call_through_works, call_works}
 use Rattle.rv_emit.proofs.Comparing.{compare_works}
 use Rattle.rv_emit.proofs.Copying.{copy_record_works}
 use Rattle.rv_emit.proofs.Ending.{end_works, fail_works, forget_works}
@@ -94,8 +95,6 @@ module _ (ground : Ground) (p : Program) (IsLight : End → Type 0) where
 
 -- the kinds of steps whose laws are premises here
 abbrev pub is_left : Step → Bool
-is_left (S.Call t at f all) = true
-is_left (S.CallThrough t at ty a all) = true
 is_left (S.Library t at which all) = true
 is_left (S.Allocate t at r size zeroed a) = true
 is_left (S.Return a) = true
@@ -103,7 +102,7 @@ is_left (S.ReturnHeld t) = true
 is_left s = false
 
 module _ (ground : Ground) (p : Program) (built : IsBuilt ground p) (Claim : Claims) (claims : AreClaims ground p Claim) (next : Next)
-    (follows : Follows ground p Claim next) (m : Moment) (q : Point) (ready : Ready ground p m q)
+    (follows : Follows ground p Claim next) (room : CallsHaveRoom ground p Claim next) (m : Moment) (q : Point) (ready : Ready ground p m q)
     (others : (s : Step) → is_left s ≡ true → Works ground p built Claim claims next m q s) where
   pub step_works : (s : Step) → Works ground p built Claim claims next m q s
   step_works (S.Set t a) = set_works ground p built Claim claims next follows m q ready t a
@@ -136,8 +135,8 @@ module _ (ground : Ground) (p : Program) (built : IsBuilt ground p) (Claim : Cla
   step_works (S.Fail k at) = fail_works ground p m q ready Claim claims built next follows k at
   step_works (S.Zeros x size) = zeros_works ground p m q ready built Claim claims next follows x size
   step_works (S.CopyRecord at size a b) = copy_record_works ground p built m q ready Claim claims next follows at size a b
-  step_works (S.Call t at f all) = others (S.Call t at f all) refl
-  step_works (S.CallThrough t at ty a all) = others (S.CallThrough t at ty a all) refl
+  step_works (S.Call t at f all) = call_works ground p built Claim claims next follows room m q ready t at f all
+  step_works (S.CallThrough t at ty a all) = call_through_works ground p built Claim claims next follows room m q ready t at ty a all
   step_works (S.Library t at which all) = others (S.Library t at which all) refl
   step_works (S.Allocate t at r size zeroed a) = others (S.Allocate t at r size zeroed a) refl
   step_works (S.Text x by n) = text_works ground p built m q ready Claim claims next follows x by n
@@ -147,6 +146,7 @@ module _ (ground : Ground) (p : Program) (built : IsBuilt ground p) (Claim : Cla
 -- ---- so many steps
 
 module _ (ground : Ground) (p : Program) (built : IsBuilt ground p) (Claim : Claims) (claims : AreClaims ground p Claim)
+    (room : (n : ℕ) → CallsHaveRoom ground p Claim (go p.types p.code n))
     (others : (next : Next) → Follows ground p Claim next → (m : Moment) (q : Point) → Ready ground p m q → (s : Step) → is_left s ≡ true
     → Works ground p built Claim claims next m q s) where
   -- wherever the machine stands as a run does, it comes to what the run comes to
@@ -172,5 +172,5 @@ module _ (ground : Ground) (p : Program) (built : IsBuilt ground p) (Claim : Cla
             below = ready.below;
             runs = ready.runs;
           } in
-          step_works ground p built Claim claims (go p.types p.code n) follows m' q ready' (others (go p.types p.code n) follows m' q ready') s code
+          step_works ground p built Claim claims (go p.types p.code n) follows (room n) m' q ready' (others (go p.types p.code n) follows m' q ready') s code
           (fits 0 s (omega arith))

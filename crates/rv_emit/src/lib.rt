@@ -6,10 +6,12 @@
 //!
 //! Proved are the steps on values (`proofs/Plain.antt`, `Calculating.antt`, `Comparing.antt`, `Pointing.antt`, `Parts.antt`, `Fields.antt`), where code goes on
 //! (`Jumping.antt`), loads and stores of all widths with what is told of them (`Loading.antt`, `Storing.antt`), records that are copied (`Copying.antt`), and
-//! blocks of locals: they begin, end, hold nothing again, zeros or a text (`Beginning.antt`, `Ending.antt`, `Filling.antt`, `Texting.antt`).
+//! blocks of locals: they begin, end, hold nothing again, zeros or a text (`Beginning.antt`, `Ending.antt`, `Filling.antt`, `Texting.antt`), and calls
+//! (`Calls.antt`): the frame that the callee makes (`Entering.antt`) and the parameters that it takes from the row (`Receiving.antt`).
 //!
 //! `Runs.antt` joins them: what three-address code comes to in some steps, the machine comes to, where each step that is left does so too.
 //!
-//! Missing are the laws of `Call`, `CallThrough`, `ReturnHeld`, `Library` and `Allocate`, which are premises there beside that of `Return`, which is proved
-//! (`Returning.antt`) where `main` gives a value, and that an image is such a program (`IsBuilt`, and `Ready` where its run begins).
+//! Missing are the laws of `ReturnHeld`, `Library` and `Allocate`, which are premises there beside that of `Return`, which is proved (`Returning.antt`) where
+//! `main` gives a value, that what is claimed of calls may be proved where there is room for a frame (`CallsHaveRoom`), and that an image is such a program
+//! (`IsBuilt`, and `Ready` where its run begins).
 #![tactic(auto)]
