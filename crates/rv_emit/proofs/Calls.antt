@@ -85,8 +85,7 @@ module _ (ground : Ground) (p : Program) (built : IsBuilt ground p) (Claim : Cla
     row_passed m q ready first count fits [] x le h = tt
     row_passed m q ready first count fits (v ∷ vs) x le h =
         let z : first + x + 1 ≡ first + (x + 1) = omega arith in
-        let k : m.sp + slot_at (first + x) ≡ m.sp + slot_at first + 4 * x = omega arith in
-        (
+        let k : m.sp + slot_at (first + x) ≡ m.sp + slot_at first + 4 * x = omega arith in (
           subst (λ a. Means p.code p.places m.blocks v (word_at q.memory a)) k (by_slot h.0),
           row_passed m q ready first count fits vs (x + 1) (omega arith) (subst (λ t. RowReads m.frame t vs) z h.1),
         )
@@ -193,7 +192,7 @@ module _ (ground : Ground) (p : Program) (built : IsBuilt ground p) (Claim : Cla
         (long : length vs ≡ all.count) (row_fits : RowFitsIfAny m.g (Some all)) (reads : RowReads m.frame all.first vs)
         -- some instructions lead there
         (arrives : (e : End) (n : ℕ) → IsPlace (slice_index p.places.entries k) → g.code ≢ []
-          → ((back : ℕ) (r : Point) → Arrived m k t all.first back r → Claim e n (state r) r.before) → Claim e n (state q) q.before) where
+        → ((back : ℕ) (r : Point) → Arrived m k t all.first back r → Claim e n (state r) r.before) → Claim e n (state q) q.before) where
       abbrev one : Caller
       one = record { to = t; routine = m.g; more = m.more; frame = m.frame }
 
