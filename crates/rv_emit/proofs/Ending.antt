@@ -80,7 +80,7 @@ module _ (ground : Ground) (p : Program) (blocks : Extents) (old new : ℕ → O
   slot_fewer g l sp t (in_block None) h = (h.0, owned_fewer (sp + slice_index l.blocks t) (slice_index (block_sizes g) t) None h.1)
   slot_fewer g l sp t (in_block (Some b)) h = (h.0, owned_fewer (sp + slice_index l.blocks t) (slice_index (block_sizes g) t) (Some b) h.1, h.2)
 
-  framed_fewer : (number : ℕ) (g : RoutineData) (l : Layout) (f : Frame) (sp : ℕ) → Framed ground p blocks old memory number g l f sp
+  pub framed_fewer : (number : ℕ) (g : RoutineData) (l : Layout) (f : Frame) (sp : ℕ) → Framed ground p blocks old memory number g l f sp
       → Framed ground p blocks new memory number g l f sp
   framed_fewer number g l f sp fr = record {
     laid = fr.laid;

@@ -40,7 +40,7 @@ use Rattle.rv_emit.proofs.Plain.{Works, aim}
 use Rattle.rv_emit.proofs.Zeroing.{changed_inside, written_inside}
 
 -- filling above the text keeps it
-filled_keeps : (text old new : M.Memory) (to value n : ℕ) → Keeps text old → Filled old new to value n → code_end ≤ to → Keeps text new
+pub filled_keeps : (text old new : M.Memory) (to value n : ℕ) → Keeps text old → Filled old new to value n → code_end ≤ to → Keeps text new
 filled_keeps text old new to value n keeps filled le = record {
   same = λ a lt. filled.outside a (inl (omega arith)) ∙ keeps.same a lt;
   bytes = bytes;

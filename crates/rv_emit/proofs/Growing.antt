@@ -195,7 +195,7 @@ module _ (c : Code) (p : Places) (room : Room) (blocks : Extents) (old new : ℕ
           missing (x ∷ all) zero lt h = cc
           missing (x ∷ all) (suc i) lt h = missing all i (omega arith) h
 
-  block_new : (b : ℕ) → b ≡ length m → block after b ≡ fresh
+  pub block_new : (b : ℕ) → b ≡ length m → block after b ≡ fresh
   block_new b is = ap (λ (o : Option Block). unwrap_or o no_block) (get_last m b fresh is)
 
   empty : (n i : ℕ) (cell : Cell) → slice_get (replicate n C.Empty) i ≡ Some cell → (i < n) × (C.Empty ≡ cell)

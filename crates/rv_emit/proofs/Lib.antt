@@ -32,3 +32,10 @@ pub mod Returning
 pub mod Entering
 pub mod Receiving
 pub mod Calls
+pub mod Allocating
+pub mod Requesting
+pub mod Rows
+pub mod Mallocs
+pub mod Freeing
+pub mod Ranging
+pub mod Setting

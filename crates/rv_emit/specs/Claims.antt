@@ -1,13 +1,13 @@
 -- What is claimed of the machine where a run comes to an end.
-use Rattle.std.specs.Prelude.{◌≡◌, ℕ, ◌+◌, ◌≤◌, List, ◌∷◌}
+use Rattle.std.specs.Prelude.{◌≡◌, ℕ, ◌+◌, ◌≤◌, List, ◌∷◌, ◌*◌, Option}
 use Rattle.lay_base.specs.declared.faults.RoomKind.{RoomKind}
 use Rattle.lay_base.specs.declared.faults.UndefinedKind.{UndefinedKind}
 use Rattle.lay_base.specs.declared.place.Place.{Place}
-use Rattle.block_memory.specs.RunWorlds.Events.{entered, output_of}
+use Rattle.block_memory.specs.RunWorlds.Events.{entered, output_of, Event, allocated, heap_weight}
 use Rattle.block_memory.specs.RunWorlds.Worlds.{World, End, ends, goes_on, undefined, out_of_room}
 use Rattle.rv_isa.specs.Step.{State, Ends, Running, Exits, step}
 use Rattle.rv_isa.specs.Run.{run}
-use Rattle.rv_isa.specs.Events.{MachineEvent, events}
+use Rattle.rv_isa.specs.Events.{MachineEvent, events, heap_start}
 use Rattle.rv_steps.specs.States.{at, later, IsBackward}
 use Rattle.block_memory.specs.declared.run_worlds.value.Value.{Value}
 use Rattle.rv_code.specs.Code.{stack_place, steps_code}
@@ -16,6 +16,8 @@ use Rattle.tac_ir.specs.Code.{RoutineData}
 use Rattle.rv_isa.specs.Step.{Standing}
 use Rattle.agreement.specs.Agreement.{shows}
 use Rattle.tac_ir.specs.Running.{Caller, Next, body}
+use Rattle.c_meaning.specs.Frames.{Frame}
+use Rattle.tac_ir.specs.declared.step.Step.{Step}
 use Rattle.rv_emit.specs.Maps.{Extents}
 use Rattle.rv_emit.specs.Grounds.{Ground}
 use Rattle.rv_emit.specs.Relation.{Program, Moment, Point, Ready, Here, IsLaid, IsMade}
@@ -50,6 +52,13 @@ module _ (ground : Ground) (p : Program) where
       → (place : Place) (callers : List Caller) (all : List Value) (w : World) → w.trace ≡ entered k ∷ m.w.trace → (n : ℕ) (s : State) (before : List MachineEvent)
       → (stack_place + l.size ≤ m.sp → Claim (body p.types p.code next place callers g g.code all w) n s before)
       → Claim (body p.types p.code next place callers g g.code all w) n s before
+
+  -- where the run goes on behind an allocation, a claim may suppose that what it takes is within the heap
+  abbrev pub AllocationsHaveRoom : Claims → Next → Type 0
+  AllocationsHaveRoom Claim next = (callers : List Caller) (g : RoutineData) (more : List Step) (f : Frame) (w : World) (block : ℕ) (elements : Option (ℕ × ℕ))
+      (size : ℕ) (trace : List Event) → w.trace ≡ allocated block elements size ∷ trace → (n : ℕ) (s : State) (before : List MachineEvent)
+      → (((unused took : ℕ) → unused ≤ heap_start + heap_weight trace → took ≤ 16 * size + 256 → unused + took ≤ ground.room.heap_end)
+      → Claim (next callers g more f w) n s before) → Claim (next callers g more f w) n s before
 
   -- ---- what is claimed
 

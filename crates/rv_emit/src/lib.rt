@@ -9,9 +9,12 @@
 //! blocks of locals: they begin, end, hold nothing again, zeros or a text (`Beginning.antt`, `Ending.antt`, `Filling.antt`, `Texting.antt`), and calls
 //! (`Calls.antt`): the frame that the callee makes (`Entering.antt`) and the parameters that it takes from the row (`Receiving.antt`).
 //!
-//! `Runs.antt` joins them: what three-address code comes to in some steps, the machine comes to, where each step that is left does so too.
+//! Allocations are proved where what they take is within the heap (`Allocating.antt`, `Requesting.antt`), and so are `malloc` and `calloc` (`Mallocs.antt`),
+//! `free` (`Freeing.antt`), `memcpy` and `memmove` (`Ranging.antt`) and `memset` (`Setting.antt`), of rows in which no local lies in a block.
 //!
-//! Missing are the laws of `ReturnHeld`, `Library` and `Allocate`, which are premises there beside that of `Return`, which is proved (`Returning.antt`) where
-//! `main` gives a value, that what is claimed of calls may be proved where there is room for a frame (`CallsHaveRoom`), and that an image is such a program
-//! (`IsBuilt`, and `Ready` where its run begins).
+//! `Runs.antt` joins the steps: what three-address code comes to in some steps, the machine comes to, where each step that is left does so too.
+//!
+//! Missing are the laws of `ReturnHeld` and of what else the library has. `Runs.antt` takes these as premises, and still those of `Library` and `Allocate` and that
+//! of `Return`, which is proved (`Returning.antt`) where `main` gives a value. Missing are also that what is claimed may be proved where there is room
+//! (`CallsHaveRoom`, `AllocationsHaveRoom`), and that an image is such a program (`IsBuilt`, and `Ready` where its run begins).
 #![tactic(auto)]
