@@ -39,3 +39,4 @@ pub mod Mallocs
 pub mod Freeing
 pub mod Ranging
 pub mod Setting
+pub mod Exiting

@@ -10,11 +10,12 @@
 //! (`Calls.antt`): the frame that the callee makes (`Entering.antt`) and the parameters that it takes from the row (`Receiving.antt`).
 //!
 //! Allocations are proved where what they take is within the heap (`Allocating.antt`, `Requesting.antt`), and so are `malloc` and `calloc` (`Mallocs.antt`),
-//! `free` (`Freeing.antt`), `memcpy` and `memmove` (`Ranging.antt`) and `memset` (`Setting.antt`), of rows in which no local lies in a block.
+//! `free` (`Freeing.antt`), `memcpy` and `memmove` (`Ranging.antt`), `memset` (`Setting.antt`) and `exit`, of rows in which no local lies in a block; and a return
+//! of what a temporary holds (`Exiting.antt`).
 //!
 //! `Runs.antt` joins the steps: what three-address code comes to in some steps, the machine comes to, where each step that is left does so too.
 //!
-//! Missing are the laws of `ReturnHeld` and of what else the library has. `Runs.antt` takes these as premises, and still those of `Library` and `Allocate` and that
-//! of `Return`, which is proved (`Returning.antt`) where `main` gives a value. Missing are also that what is claimed may be proved where there is room
-//! (`CallsHaveRoom`, `AllocationsHaveRoom`), and that an image is such a program (`IsBuilt`, and `Ready` where its run begins).
+//! Missing are the laws of `memcmp`, `putchar` and `getchar`. `Runs.antt` takes these as premises, and still those of the other steps of the library, of
+//! allocations and of returns, which are proved (`Returning.antt`, `Exiting.antt`) where `main` gives a value. Missing are also that what is claimed may be
+//! proved where there is room (`CallsHaveRoom`, `AllocationsHaveRoom`), and that an image is such a program (`IsBuilt`, and `Ready` where its run begins).
 #![tactic(auto)]
