@@ -10,8 +10,8 @@
 //! (`Calls.antt`): the frame that the callee makes (`Entering.antt`) and the parameters that it takes from the row (`Receiving.antt`).
 //!
 //! Allocations are proved where what they take is within the heap (`Allocating.antt`, `Requesting.antt`), and so are `malloc` and `calloc` (`Mallocs.antt`),
-//! `free` (`Freeing.antt`), `memcpy` and `memmove` (`Ranging.antt`), `memset` (`Setting.antt`) and `exit`, of rows in which no local lies in a block; and a return
-//! of what a temporary holds (`Exiting.antt`).
+//! `free` (`Freeing.antt`), `memcpy` and `memmove` (`Ranging.antt`), `memset` (`Setting.antt`) and `exit`, of rows in which no local lies in a block; and a
+//! return of what a temporary holds (`Exiting.antt`).
 //!
 //! `Runs.antt` joins the steps: what three-address code comes to in some steps, the machine comes to, where each step that is left does so too.
 //!
