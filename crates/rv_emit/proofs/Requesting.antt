@@ -117,9 +117,12 @@ module _ (ground : Ground) (p : Program) (built : IsBuilt ground p) (Claim : Cla
         (elsewhere ground p m1 q1 done comes.registers back (comes.leaves 0 (inl (omega arith))) (comes.leaves 2 (inl (omega arith)))
         (omega (arith, ready.code)) (omega (arith, ready.whole)))
         10 t (start + head) (Some block) (omega arith) (λ d. omega arith) comes.answers (λ v k. omega (arith, room, ground.heap_end)) takes_it.slot takes_it.opened
-        (λ v k. let d : block ≡ v = cc in subst (λ z. Means p.code p.places m1.blocks z (start + head)) d
-        (record { at = start + head; size = n }, get_last m.blocks (length m.w.memory) (record { at = start + head; size = n }) (sym ready.world.flat.long), omega arith,
-        omega arith))
+        (λ v k. let d : block ≡ v = cc in subst (λ z. Means p.code p.places m1.blocks z (start + head)) d (
+          record { at = start + head; size = n },
+          get_last m.blocks (length m.w.memory) (record { at = start + head; size = n }) (sym ready.world.flat.long),
+          omega arith,
+          omega arith,
+        ))
         code.1.1))
 
     pub by_malloc : (zeroed : Bool) (t : ℕ) → q.f 10 ≡ n → Takes ground p built Claim claims next follows m t
