@@ -4,6 +4,8 @@
 - Each program of `tools/programs` and of `examples/interp`: its file ends by `layc run` as its sources end by `layc interp`, and by QEMU's user-mode emulator
   as well, on its input and on beginnings of it.
 - Random programs by csmith, 40 or as many as a word on the command line says: the same, and by GCC's code for the machine at hand.
+- Programs that ask for more room than there is: their files break where they ask, after what was written before, and so does a count of records whose bytes
+  are no word; one that asks for less goes on.
 - The files have no instruction that objdump does not know.
 
 What needs a tool that is missing is skipped, and the tool is named."""
@@ -20,6 +22,25 @@ from checking import EMULATOR, LAYC, check, have
 COUNT, MOST_SEEDS_EACH = 40, 10
 STEPS = 10**10
 DUMP = "riscv64-unknown-elf-objdump"
+BREAKS, SIGTRAP = 125, 5
+
+# Each writes A, asks for room, and writes B where it has it: what is asked for, and whether there is so much with the heap and the stack that are usual.
+ASKS = [
+    ("calloc(1000, 1000);", True),
+    ("calloc(65536, 65536);", False),
+    ("calloc(70000, 140000);", False),
+    ("calloc(65536, 65535);", False),
+    ("malloc(4000000000u);", False),
+    ("for (;;) malloc(1000000);", False),
+    ("malloc(1000 + deep(1000));", True),
+    ("malloc(1000 + deep(-1));", False),
+]
+ASKING = """void *malloc(unsigned bytes);
+void *calloc(unsigned count, unsigned size);
+int putchar(int byte);
+int deep(int n) { int row[64]; row[0] = n; return n == 0 ? 0 : deep(n - 1) + row[0] - n; }
+int main(void) { putchar(65); ASK putchar(66); return 7; }
+"""
 
 
 def row_of(files):
@@ -67,6 +88,22 @@ def check_programs(rows, folder):
         check_file(rows, program.name, folder, program.files(), program.inputs(), lambda text: ends([LAYC, "interp", *names], text, folder))
 
 
+def check_room(rows, folder):
+    for ask, has_room in ASKS:
+        made = file_of(rows, {"t.c": ASKING.replace("ASK", ask)})
+        check(made is not None, f"{ask}: no file")
+        if made is None:
+            continue
+        path = os.path.join(folder, "room.elf")
+        with open(path, "wb") as f:
+            f.write(made)
+        os.chmod(path, 0o755)
+        for words, breaks in [([LAYC, "run", "--steps", str(STEPS)], BREAKS)] + [([EMULATOR], -SIGTRAP)] * have_emulator:
+            wanted = (7, b"AB") if has_room else (breaks, b"A")
+            got = ends([*words, path], b"", folder)
+            check(got == wanted, f"{ask} by {words[0]}: {got}; wanted {wanted}")
+
+
 def check_random(rows, folder, count):
     compared, seed, plain = 0, 0, Compiled("-O0", 60)
     while compared < count and seed < MOST_SEEDS_EACH * count:
@@ -109,6 +146,7 @@ def main():
     have_emulator = have(EMULATOR)
     with tempfile.TemporaryDirectory() as folder:
         check_programs(rows, folder)
+        check_room(rows, folder)
         check_instructions(rows, folder)
         if makes_programs() and csmith_programs.have_csmith():
             check_random(rows, folder, count)
