@@ -24,7 +24,7 @@ continues_end place w (Some (pointer q)) u o = o
 
 end_follows : (d : ℕ) (lifts : Bool) (place : Place) (v : Option Value) (w : World) (t : ℕ) → t ≡ w.turns + d
     → Follows d lifts (end_by place v w) (end_by place v (later lifts w t))
-end_follows d lifts place None w t h = ap (λ n. ends 0 (later lifts w n)) h
+end_follows d lifts place None w t h = ap (λ n. undefined K.NoValue place (later lifts w n)) h
 end_follows d lifts place (Some (word v)) w t h = ap (λ n. ends (v % 2 ^ 8) (later lifts w n)) h
 end_follows d lifts place (Some (pointer q)) w t h = ap (λ n. undefined K.Pointer place (later lifts w n)) h
 

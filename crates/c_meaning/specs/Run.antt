@@ -33,9 +33,9 @@ numbers_from k (suc n) = k ∷ numbers_from (k + 1) n
 abbrev pub numbers : (count : ℕ) → List ℕ
 numbers count = numbers_from 0 count
 
--- of what `main` gives, the low byte (own); no `main` that is well typed gives no value, or a pointer
+-- of what `main` gives, the low byte: the status is a use of that value (own). No `main` that is well typed gives none, or a pointer
 abbrev pub end_by : Place → Option Value → World → End
-end_by place None w = ends 0 w
+end_by place None w = undefined K.NoValue place w
 end_by place (Some (word v)) w = ends (v % 2 ^ 8) w
 end_by place (Some (pointer q)) w = undefined K.Pointer place w
 

@@ -121,7 +121,7 @@ module _ (Is : Place → Type 0) (p : ProgramData) (placed : FunctionsArePlaced 
     main_stands = subst (λ o. Is (place_of p o)) (sym there) (function_placed p.main g there).0
 
     by_end : (v : Option Value) (w : World) → Runs.EndsAt Is (end_by (main_place p) v w)
-    by_end None w = tt
+    by_end None w = main_stands
     by_end (Some (word v)) w = tt
     by_end (Some (pointer q)) w = main_stands
 

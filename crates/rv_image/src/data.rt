@@ -41,23 +41,23 @@ pub(crate) fn object_sizes(
     Ok(sizes)
 }
 
-/// A byte stands in the data, where there is one with that index.
-fn put_byte(data: &mut Vec<u8>, at: usize, byte: u8)
-    ensures { data.new.items ≡ slice_set data.old.items at byte }
+/// A byte stands in the segment, where there is one with that index.
+fn put_byte(segment: &mut Vec<u8>, at: usize, byte: u8)
+    ensures { segment.new.items ≡ slice_set segment.old.items at byte }
 {
-    if let Some(cell) = data.get_mut(at) {
+    if let Some(cell) = segment.get_mut(at) {
         *cell = byte;
     }
 }
 
 /// Bytes stand in the data from an index on.
 #[tactic(auto, using(crate::proofs::Walks::bytes_more))]
-fn put(data: &mut Vec<u8>, at: usize, bytes: &[u8])
+fn put(segment: &mut Vec<u8>, at: usize, bytes: &[u8])
     requires { at < 2 ^ 40 }
-    ensures { data.new.items ≡ put_bytes at bytes.now data.old.items }
+    ensures { segment.new.items ≡ put_bytes at bytes.now segment.old.items }
 {
     for (k, byte) in bytes.iter().enumerate() {
-        put_byte(data, at + k, *byte);
+        put_byte(segment, at + k, *byte);
     }
 }
 
@@ -71,15 +71,19 @@ fn place_at(places: &[u32], n: u32) -> u32
     }
 }
 
-fn put_value(data: &mut Vec<u8>, q: &Places, at: usize, value: &InitialValue)
+fn put_value(segment: &mut Vec<u8>, q: &Places, at: usize, value: &InitialValue)
     requires { at < 2 ^ 40 }
-    ensures { data.new.items ≡ put_bytes at (value_bytes q.now value.now) data.old.items }
+    ensures { segment.new.items ≡ put_bytes at (value_bytes q.now value.now) segment.old.items }
 {
     match value {
-        InitialValue::Number(kind, n) => put(data, at, &n.to_le_bytes()[..width(*kind) as usize]),
+        InitialValue::Number(kind, n) => put(
+            segment,
+            at,
+            &n.to_le_bytes()[..width(*kind) as usize],
+        ),
         InitialValue::Address(_, object, offset) => {
             put(
-                data,
+                segment,
                 at,
                 &place_at(q.objects.as_slice(), *object)
                     .wrapping_add(*offset)
@@ -87,7 +91,7 @@ fn put_value(data: &mut Vec<u8>, q: &Places, at: usize, value: &InitialValue)
             )
         }
         InitialValue::Function(_, f) => put(
-            data,
+            segment,
             at,
             &place_at(q.entries.as_slice(), *f).to_le_bytes(),
         ),
@@ -95,46 +99,46 @@ fn put_value(data: &mut Vec<u8>, q: &Places, at: usize, value: &InitialValue)
 }
 
 /// What an object holds at first.
-fn put_values(data: &mut Vec<u8>, q: &Places, at: u32, values: &[Initial])
-    ensures { data.new.items ≡ put_values q.now at values.now data.old.items }
+fn put_values(segment: &mut Vec<u8>, q: &Places, at: u32, values: &[Initial])
+    ensures { segment.new.items ≡ put_values q.now at values.now segment.old.items }
 {
     for i in values {
-        put_value(data, q, at as usize + i.offset as usize, &i.value);
+        put_value(segment, q, at as usize + i.offset as usize, &i.value);
     }
 }
 
 /// What an object holds at first.
-fn put_initial(data: &mut Vec<u8>, q: &Places, at: u32, o: &Object)
-    ensures { data.new.items ≡ put_initial q.now at o.now.initial data.old.items }
+fn put_initial(segment: &mut Vec<u8>, q: &Places, at: u32, o: &Object)
+    ensures { segment.new.items ≡ put_initial q.now at o.now.initial segment.old.items }
 {
     if let Some(values) = &o.initial {
-        put_values(data, q, at, values.as_slice());
+        put_values(segment, q, at, values.as_slice());
     }
 }
 
 /// What objects hold at first, each at its place.
 #[tactic(auto, using(crate::proofs::Walks::objects_more))]
-fn put_objects(data: &mut Vec<u8>, q: &Places, objects: &[Object])
+fn put_objects(segment: &mut Vec<u8>, q: &Places, objects: &[Object])
     requires { length q.now.objects ≡ length objects.now }
-    ensures { data.new.items ≡ put_objects q.now objects.now q.now.objects data.old.items }
+    ensures { segment.new.items ≡ put_objects q.now objects.now q.now.objects segment.old.items }
 {
     let places = q.objects.as_slice();
     for (i, o) in objects.iter().enumerate() {
-        put_initial(data, q, places[i].saturating_sub(DATA), o);
+        put_initial(segment, q, places[i].saturating_sub(DATA), o);
     }
 }
 
 /// The texts of a function, and the place behind them.
 #[tactic(auto, using(crate::proofs::Walks::place_fits, crate::proofs::Walks::text_fits))]
-fn put_texts(data: &mut Vec<u8>, at: u64, texts: &[Bytes]) -> u64
+fn put_texts(segment: &mut Vec<u8>, at: u64, texts: &[Bytes]) -> u64
     requires { end_from at (map length texts.now) < 2 ^ 32 }
-    ensures bytes { data.new.items ≡ put_texts at texts.now data.old.items }
+    ensures bytes { segment.new.items ≡ put_texts at texts.now segment.old.items }
     ensures end { result ≡ end_from at (map length texts.now) }
 {
     let mut at = at;
     for text in texts {
         put(
-            data,
+            segment,
             at.saturating_sub(u64::from(DATA)) as usize,
             text.as_slice(),
         );
@@ -145,13 +149,13 @@ fn put_texts(data: &mut Vec<u8>, at: u64, texts: &[Bytes]) -> u64
 
 /// The texts of all functions.
 #[tactic(auto, using(crate::proofs::Walks::texts_fit))]
-fn put_all_texts(data: &mut Vec<u8>, at: u64, routines: &[Routine])
+fn put_all_texts(segment: &mut Vec<u8>, at: u64, routines: &[Routine])
     requires { all_texts_end at (map data_of routines.now) < 2 ^ 32 }
-    ensures { data.new.items ≡ put_all_texts at (map data_of routines.now) data.old.items }
+    ensures { segment.new.items ≡ put_all_texts at (map data_of routines.now) segment.old.items }
 {
     let mut at = at;
     for g in routines {
-        at = put_texts(data, at, g.texts.as_slice());
+        at = put_texts(segment, at, g.texts.as_slice());
     }
 }
 

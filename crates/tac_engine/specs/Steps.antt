@@ -95,7 +95,7 @@ calls_through t at type q all s = undefined K.Call at s
 
 -- how the run ends where `main`, at that place, gives that: of a number, the low byte (own)
 abbrev pub final_by : Place → Option Value → Final
-final_by at None = Ends 0
+final_by at None = Undefined K.NoValue at
 final_by at (Some (word v)) = Ends (v % 2 ^ 8)
 final_by at (Some (pointer q)) = Undefined K.Pointer at
 

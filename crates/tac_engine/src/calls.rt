@@ -83,7 +83,7 @@ fn final_by(place: Place, v: Option<Value>) -> Final
     ensures { result ≡ final_by place v }
 {
     match v {
-        None => Final::Ends(0),
+        None => Final::Undefined(UndefinedKind::NoValue, place),
         Some(Value::Word(word)) => Final::Ends((word % 0x100) as u8),
         Some(Value::Pointer(_)) => Final::Undefined(UndefinedKind::Pointer, place),
     }

@@ -6,6 +6,6 @@ use Rattle.rv_image.proofs.data.put_all_texts.Given as goal
 
 abbrev pub invariant-loop-g : goal.invariant-loop-g
 invariant-loop-g l = record {
-  bytes : put_all_texts l.at (map data_of (drop l.g-index l.routines)) l.data.items ≡ put_all_texts l.fn.at (map data_of l.fn.routines) l.fn.data.items;
+  bytes : put_all_texts l.at (map data_of (drop l.g-index l.routines)) l.segment.items ≡ put_all_texts l.fn.at (map data_of l.fn.routines) l.fn.segment.items;
   end : all_texts_end l.at (map data_of (drop l.g-index l.routines)) ≡ all_texts_end l.fn.at (map data_of l.fn.routines);
 }
