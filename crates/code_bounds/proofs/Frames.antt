@@ -1,7 +1,7 @@
 -- How large frames are.
 use Rattle.std.proofs.Common.{◌≡◌, ℕ, zero, suc, ◌+◌, ◌*◌, ◌≤◌, List, [], ◌∷◌, ◌++◌, length, map, All, Some, refl, ap, ◌∙◌, subst, arith}
 use Rattle.std.proofs.Common.{slice_get}
-use Rattle.std.specs.Prelude.{replicate}
+use Rattle.std.specs.Prelude.{replicate, Bool, true, false, if◌then◌else◌}
 use Rattle.std.proofs.lemmas.List.Elements.{All-head, All-tail}
 use Rattle.c_typed.specs.declared.program.Local.{Local}
 use Rattle.c_typed.specs.Programs.{FunctionData, ProgramData}
@@ -10,15 +10,14 @@ use Rattle.c_meaning.specs.Weights.{size_of_locals}
 use Rattle.c_well_typed.specs.ProgramWeights.Weights.{frame_weight, weight_of_function}
 use Rattle.lower_tac.specs.Statements.{parameter_of}
 use Rattle.tac_ir.specs.Code.{RoutineData}
-use Rattle.tac_ir.specs.Kinds.{taken_by}
 use Rattle.tac_ir.specs.Temporaries.{top_of, top_of_all}
 use Rattle.tac_ir.specs.declared.step.Step.{Step}
 use Rattle.tac_ir.specs.declared.step.Step.TheVariants as S
 use Rattle.code_bounds.specs.Temporaries.{temporaries}
 use Rattle.code_bounds.specs.LoweredLaws.{IsRoutineOf, HasOwnSize, sizes_of_locals, SizesStand, TemporariesAreFew, FramesAreWithin}
 use Rattle.code_bounds.proofs.Routines.{some_same, Is, is_of}
-use Rattle.rv_code.specs.Frames.{block_sizes, end_from, sizes_in, sizes_of_parameters, sizes_with, slot_at, slots, whole_words, with_size, written_by}
-use Rattle.rv_code.specs.Frames.{written_in}
+use Rattle.rv_code.specs.Frames.{block_sizes, end_from, sizes_in, sizes_of_parameters, sizes_with, slot_at, slots, whole_words, with_size}
+use Rattle.rv_code.specs.Frames.{block_size, kept_by, kept_in, past}
 use Rattle.code_bounds.specs.CompiledLaws.{FramesAreSmall, FramesAreWeighed}
 
 pub all_at : {A : Type 0} (P : A → Type 0) (all : List A) (k : ℕ) (x : A) → slice_get all k ≡ Some x → All P all → P x
@@ -28,49 +27,49 @@ all_at P (y ∷ all) (suc k) x e h = all_at P all k x e (All-tail P y all h)
 
 -- ---- words for temporaries
 
-written_below : (s : Step) → written_by (taken_by s) ≤ top_of s
-written_below (S.Set t a) = omega arith
-written_below (S.Clear t) = omega arith
-written_below (S.Unary t at op a) = omega arith
-written_below (S.Not t a) = omega arith
-written_below (S.Convert t at kind a) = omega arith
-written_below (S.AsPointer t at a) = omega arith
-written_below (S.Number t at a) = omega arith
-written_below (S.Binary t at op kind right a b) = omega arith
-written_below (S.Compare t at op kind a b) = omega arith
-written_below (S.Move t at op size left kind a b) = omega arith
-written_below (S.Distance t at size a b) = omega arith
-written_below (S.Update t at op size sort right a b) = omega arith
-written_below (S.Field t at by a) = omega arith
-written_below (S.ElementField t at size kind by a b) = omega arith
-written_below (S.Element t at n size addressed kind a b) = omega arith
-written_below (S.Part t at by a) = omega arith
-written_below (S.Inside t at x by) = omega arith
-written_below (S.Load t at access a) = omega arith
-written_below (S.Store at access a b) = omega arith
-written_below (S.CopyRecord at size a b) = omega arith
-written_below (S.Jump to) = omega arith
-written_below (S.Branch when a to) = omega arith
-written_below (S.Test at op kind when a b to) = omega arith
-written_below (S.Case n a to) = omega arith
-written_below (S.Call t at f all) = omega arith
-written_below (S.CallThrough t at ty a all) = omega arith
-written_below (S.Library t at which all) = omega arith
-written_below (S.Allocate t at r size zeroed a) = omega arith
-written_below (S.Begin x size) = omega arith
-written_below (S.End x) = omega arith
-written_below (S.Forget x size) = omega arith
-written_below (S.Zeros x size) = omega arith
-written_below (S.Text x by n) = omega arith
-written_below (S.Began f n) = omega arith
-written_below (S.Return a) = omega arith
-written_below (S.ReturnHeld t) = omega arith
-written_below (S.Fail kind at) = omega arith
+kept_below : (s : Step) → past (kept_by s) ≤ top_of s
+kept_below (S.Set t a) = omega arith
+kept_below (S.Clear t) = omega arith
+kept_below (S.Unary t at op a) = omega arith
+kept_below (S.Not t a) = omega arith
+kept_below (S.Convert t at kind a) = omega arith
+kept_below (S.AsPointer t at a) = omega arith
+kept_below (S.Number t at a) = omega arith
+kept_below (S.Binary t at op kind right a b) = omega arith
+kept_below (S.Compare t at op kind a b) = omega arith
+kept_below (S.Move t at op size left kind a b) = omega arith
+kept_below (S.Distance t at size a b) = omega arith
+kept_below (S.Update t at op size sort right a b) = omega arith
+kept_below (S.Field t at by a) = omega arith
+kept_below (S.ElementField t at size kind by a b) = omega arith
+kept_below (S.Element t at n size addressed kind a b) = omega arith
+kept_below (S.Part t at by a) = omega arith
+kept_below (S.Inside t at x by) = omega arith
+kept_below (S.Load t at access a) = omega arith
+kept_below (S.Store at access a b) = omega arith
+kept_below (S.CopyRecord at size a b) = omega arith
+kept_below (S.Jump to) = omega arith
+kept_below (S.Branch when a to) = omega arith
+kept_below (S.Test at op kind when a b to) = omega arith
+kept_below (S.Case n a to) = omega arith
+kept_below (S.Call t at f all) = omega arith
+kept_below (S.CallThrough t at ty a all) = omega arith
+kept_below (S.Library t at which all) = omega arith
+kept_below (S.Allocate t at r size zeroed a) = omega arith
+kept_below (S.Begin x size) = omega arith
+kept_below (S.End x) = omega arith
+kept_below (S.Forget x size) = omega arith
+kept_below (S.Zeros x size) = omega arith
+kept_below (S.Text x by n) = omega arith
+kept_below (S.Began f n) = omega arith
+kept_below (S.Return a) = omega arith
+kept_below (S.ReturnHeld t) = omega arith
+kept_below (S.Fail kind at) = omega arith
 
-slots_below : (all : List Step) (least most : ℕ) → least ≤ most → top_of_all all ≤ most → written_in all least ≤ most
+slots_below : (all : List Step) (least most : ℕ) → least ≤ most → top_of_all all ≤ most → kept_in all least ≤ most
 slots_below [] least most h k = h
 slots_below (s ∷ more) least most h k =
-    let a = written_below s in let b = slots_below more least most h (omega (arith, k)) in omega (arith, a, b, k)
+    let a = kept_below s in let b = slots_below more least most h (omega (arith, k)) in omega (arith, a, b, k)
 
 -- ---- blocks: none is larger than its local
 
@@ -80,12 +79,12 @@ Below [] (b ∷ own) = ⊥
 Below (a ∷ sizes) [] = ⊥
 Below (a ∷ sizes) (b ∷ own) = (a ≤ b) × Below sizes own
 
-set_below : (x v : ℕ) (sizes own : List ℕ) → Below sizes own → slice_get own x ≡ Some v → Below (with_size x v sizes) own
-set_below x v [] [] h e = cc
-set_below x v [] (b ∷ own) h e = absurd h
-set_below x v (a ∷ sizes) [] h e = absurd h
-set_below zero v (a ∷ sizes) (b ∷ own) h e = (let q : b ≡ v = some_same e in let l = h.0 in omega (arith, q, l), h.1)
-set_below (suc x) v (a ∷ sizes) (b ∷ own) h e = (h.0, set_below x v sizes own h.1 e)
+set_below : (x n v : ℕ) (sizes own : List ℕ) → Below sizes own → slice_get own x ≡ Some v → n ≤ v → Below (with_size x n sizes) own
+set_below x n v [] [] h e le = cc
+set_below x n v [] (b ∷ own) h e le = absurd h
+set_below x n v (a ∷ sizes) [] h e le = absurd h
+set_below zero n v (a ∷ sizes) (b ∷ own) h e le = (let q : b ≡ v = some_same e in let l = h.0 in omega (arith, q, l, le), h.1)
+set_below (suc x) n v (a ∷ sizes) (b ∷ own) h e le = (h.0, set_below x n v sizes own h.1 e le)
 
 with_below : (own : List ℕ) (s : Step) → HasOwnSize own s → (sizes : List ℕ) → Below sizes own → Below (sizes_with s sizes) own
 with_below own (S.Set t a) h sizes k = k
@@ -116,7 +115,7 @@ with_below own (S.Call t at f all) h sizes k = k
 with_below own (S.CallThrough t at ty a all) h sizes k = k
 with_below own (S.Library t at which all) h sizes k = k
 with_below own (S.Allocate t at r size zeroed a) h sizes k = k
-with_below own (S.Begin x size) h sizes k = set_below x size sizes own k h
+with_below own (S.Begin x size) h sizes k = set_below x size size sizes own k h (omega arith)
 with_below own (S.End x) h sizes k = k
 with_below own (S.Forget x size) h sizes k = k
 with_below own (S.Zeros x size) h sizes k = k
@@ -143,9 +142,13 @@ module _ (p : ProgramData) where
       → (sizes : List ℕ) → Below sizes own → Below (sizes_of_parameters x (map (parameter_of p) all) sizes) own
   parameters_below own x [] are sizes h = h
   parameters_below own x (l ∷ all) are sizes h =
-      set_below x (size l) (sizes_of_parameters (x + 1) (map (parameter_of p) all) sizes) own
+      set_below x (block_size (parameter_of p l)) (size l) (sizes_of_parameters (x + 1) (map (parameter_of p) all) sizes) own
       (parameters_below own (x + 1) all (λ k m e. let q : x + 1 + k ≡ x + suc k = omega arith in ap (slice_get own) q ∙ are (suc k) m e) sizes h)
-      (let q : x ≡ x + 0 = omega arith in ap (slice_get own) q ∙ are 0 l refl)
+      (let q : x ≡ x + 0 = omega arith in ap (slice_get own) q ∙ are 0 l refl) (by_block l.block (size l))
+    where
+      by_block : (b : Bool) (n : ℕ) → (if b then n else 0) ≤ n
+      by_block true n = omega arith
+      by_block false n = omega arith
 
   sizes_first : (a b : List Local) (k : ℕ) (l : Local) → slice_get a k ≡ Some l → slice_get (map size (a ++ b)) k ≡ Some (size l)
   sizes_first [] b k l e = cc

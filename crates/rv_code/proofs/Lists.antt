@@ -4,7 +4,6 @@ use Rattle.std.specs.Prelude.{slice_get}
 use Rattle.std.proofs.lemmas.List.{drop_more, take_more, reverse-append, reverse-reverse}
 use Rattle.std.specs.Prelude.{drop, map, max, take, ◌==◌, false}
 use Rattle.std.proofs.lemmas.Bool.Decides.{nat_tests}
-use Rattle.tac_ir.specs.Kinds.{taken_by}
 use Rattle.tac_ir.specs.declared.step.Parameter.{Parameter}
 use Rattle.tac_ir.specs.declared.step.Step.{Step}
 use Rattle.tac_ir.specs.Code.{RoutineData, data_of}
@@ -15,7 +14,7 @@ use Rattle.rv_code.specs.Code.{entry_code, function_code, step_code, steps_code}
 use Rattle.rv_code.specs.Programs.{functions_code, layouts_from, all_texts_end, entries_end, texts_end, frame_alone, words_of, words_of_all, words_of_function}
 use Rattle.rv_code.specs.declared.layout.Layout.{Layout}
 use Rattle.rv_code.specs.declared.layout.Places.{Places}
-use Rattle.rv_code.specs.Frames.{block_sizes, frame_size, slots, slot_at, sizes_of_parameters, with_size, end_from, sizes_in, sizes_with, whole_words, written_by, written_in}
+use Rattle.rv_code.specs.Frames.{block_sizes, frame_size, slots, slot_at, sizes_of_parameters, with_size, end_from, sizes_in, sizes_with, whole_words, block_size, kept_by, kept_in, past}
 
 pub text_found : (texts : List (List ℕ)) (n : ℕ) (bytes : List ℕ) → slice_get texts n ≡ Some bytes → get_or texts n [] ≡ bytes
 text_found [] n bytes e = cc
@@ -37,9 +36,9 @@ end_is_behind at (size ∷ more) = omega (arith, end_is_behind (at + whole_words
 pub one_taken : (all : List Step) (i : ℕ) (s : Step) → i < length all → s ≡ get_or all i s → reverse (take (i + 1) all) ≡ s ∷ reverse (take i all)
 one_taken all i s lt is = ap reverse (take_more all i s lt ∙ ap (λ x. take i all ++ x ∷ []) (sym is)) ∙ reverse-append (take i all) (s ∷ [])
 
-pub written_more : (all : List Step) (i : ℕ) (s : Step) (n : ℕ) → i < length all → s ≡ get_or all i s
-    → written_in (reverse (take (i + 1) all)) n ≡ max (written_by (taken_by s)) (written_in (reverse (take i all)) n)
-written_more all i s n lt is = ap (λ more. written_in more n) (one_taken all i s lt is)
+pub kept_more : (all : List Step) (i : ℕ) (s : Step) (n : ℕ) → i < length all → s ≡ get_or all i s
+    → kept_in (reverse (take (i + 1) all)) n ≡ max (past (kept_by s)) (kept_in (reverse (take i all)) n)
+kept_more all i s n lt is = ap (λ more. kept_in more n) (one_taken all i s lt is)
 
 pub sizes_more : (all : List Step) (i : ℕ) (s : Step) (sizes : List ℕ) → i < length all → s ≡ get_or all i s
     → sizes_in (reverse (take (i + 1) all)) sizes ≡ sizes_with s (sizes_in (reverse (take i all)) sizes)
@@ -52,7 +51,7 @@ pub steps_more : (p : Places) (g : RoutineData) (l : Layout) (all : List Step) (
 steps_more p g l all i s lt is = ap (λ more. steps_code p g l more) (one_taken all i s lt is)
 
 pub parameters_more : (all : List Parameter) (x : ℕ) (r : Parameter) (sizes : List ℕ) → x < length all → r ≡ get_or all x r
-    → sizes_of_parameters x (drop x all) sizes ≡ with_size x r.size (sizes_of_parameters (x + 1) (drop (x + 1) all) sizes)
+    → sizes_of_parameters x (drop x all) sizes ≡ with_size x (block_size r) (sizes_of_parameters (x + 1) (drop (x + 1) all) sizes)
 parameters_more all x r sizes lt is = ap (λ more. sizes_of_parameters x more sizes) (drop_more all x r lt ∙ ap (λ q. q ∷ drop (x + 1) all) (sym is))
 
 pub slots_fit : (g : RoutineData) → frame_size g < 2 ^ 31 → 4 + 4 * slots g < 2 ^ 31

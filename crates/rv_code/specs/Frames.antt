@@ -1,6 +1,6 @@
 -- What a function's frame has where, in bytes from the stack pointer on: the place to which the function returns, a word for each temporary, with the
 -- locals among them, and the blocks of locals.
-use Rattle.std.specs.Prelude.{ℕ, suc, ◌+◌, ◌*◌, ◌/◌, max, List, [], ◌∷◌, length, replicate, slice_index, slice_set, Option, Some, None}
+use Rattle.std.specs.Prelude.{ℕ, suc, ◌+◌, ◌*◌, ◌/◌, max, if◌then◌else◌, List, [], ◌∷◌, length, replicate, slice_index, slice_set, Option, Some, None}
 use Rattle.tac_ir.specs.Code.{RoutineData}
 use Rattle.tac_ir.specs.Kinds.{taken_by}
 use Rattle.tac_ir.specs.declared.step.Parameter.{Parameter}
@@ -13,10 +13,14 @@ use Rattle.tac_ir.specs.declared.step.Step.TheVariants as S
 abbrev pub with_size : (x size : ℕ) → List ℕ → List ℕ
 with_size x size sizes = slice_set sizes x (max size (slice_index sizes x))
 
+-- a parameter that is kept by name has none
+abbrev pub block_size : Parameter → ℕ
+block_size r = if r.block then r.size else 0
+
 -- of the parameters from the x-th on
 abbrev pub sizes_of_parameters : (x : ℕ) → List Parameter → List ℕ → List ℕ
 sizes_of_parameters x [] sizes = sizes
-sizes_of_parameters x (r ∷ more) sizes = with_size x r.size (sizes_of_parameters (x + 1) more sizes)
+sizes_of_parameters x (r ∷ more) sizes = with_size x (block_size r) (sizes_of_parameters (x + 1) more sizes)
 
 abbrev pub sizes_with : Step → List ℕ → List ℕ
 sizes_with (S.Begin x size) sizes = with_size x size sizes
@@ -31,18 +35,23 @@ block_sizes g = sizes_in g.code (sizes_of_parameters 0 g.parameters (replicate (
 
 -- ---- where things are
 
--- one more than the greatest temporary that the steps write
-abbrev pub written_by : Option ℕ → ℕ
-written_by None = 0
-written_by (Some t) = suc t
+-- the temporary that a step writes, or whose value it returns
+abbrev pub kept_by : Step → Option ℕ
+kept_by (S.ReturnHeld t) = Some t
+kept_by s = taken_by s
 
-abbrev pub written_in : List Step → ℕ → ℕ
-written_in [] least = least
-written_in (s ∷ more) least = max (written_by (taken_by s)) (written_in more least)
+-- one more than the greatest of these
+abbrev pub past : Option ℕ → ℕ
+past None = 0
+past (Some t) = suc t
 
--- a word for each local, and for each temporary that a step writes
+abbrev pub kept_in : List Step → ℕ → ℕ
+kept_in [] least = least
+kept_in (s ∷ more) least = max (past (kept_by s)) (kept_in more least)
+
+-- a word for each local, and for each of these temporaries
 abbrev pub slots : RoutineData → ℕ
-slots g = written_in g.code (length g.locals)
+slots g = kept_in g.code (length g.locals)
 
 abbrev pub slot_at : (t : ℕ) → ℕ
 slot_at t = 4 + 4 * t

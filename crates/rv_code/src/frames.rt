@@ -1,10 +1,9 @@
 //! What a function's frame has where.
 
 ghost use Rattle.std.specs.Prelude.{◌≡◌, ◌<◌, ◌^◌, IfOk, length, max, replicate};
-ghost use Rattle.rv_code.specs.Frames.{block_sizes, end_from, frame_size, places_from, sizes_of_parameters, sizes_with, slots, with_size, written_by};
+ghost use Rattle.rv_code.specs.Frames.{block_size, block_sizes, end_from, frame_size, kept_by, past, places_from, sizes_of_parameters, sizes_with, slots, with_size};
 ghost use Rattle.rv_code.specs.Programs.{frame_alone};
 ghost use Rattle.tac_ir.specs.Code.{data_of};
-ghost use Rattle.tac_ir.specs.Kinds.{taken_by};
 
 use crate::layout::Layout;
 use lay_base::{List, NoMemory};
@@ -32,6 +31,12 @@ fn no_sizes(alloc: Global, locals: usize) -> Result<Vec<u32>, NoMemory>
     }
 }
 
+fn block_size(r: Parameter) -> u32
+    ensures { result ≡ block_size r }
+{
+    if r.block { r.size } else { 0 }
+}
+
 /// The blocks of parameters, the last one first.
 #[tactic(auto, using(crate::proofs::Lists::parameters_more))]
 fn parameters(sizes: &mut Vec<u32>, all: &[Parameter])
@@ -40,13 +45,13 @@ fn parameters(sizes: &mut Vec<u32>, all: &[Parameter])
     let mut x = all.len();
     while x > 0 {
         x -= 1;
-        raise(sizes, x, all[x].size);
+        raise(sizes, x, block_size(all[x]));
     }
 }
 
-/// A step writes a temporary, or begins a block.
+/// A step writes or returns a temporary, or begins a block.
 fn count(step: Step, slots: &mut u64, sizes: &mut Vec<u32>)
-    ensures slots { slots.new ≡ max (written_by (taken_by step)) slots.old }
+    ensures slots { slots.new ≡ max (past (kept_by step)) slots.old }
     ensures sizes { sizes.new.items ≡ sizes_with step sizes.old.items }
 {
     let t = match step {
@@ -71,7 +76,8 @@ fn count(step: Step, slots: &mut u64, sizes: &mut Vec<u32>)
         | Step::Call(t, _, _, _)
         | Step::CallThrough(t, _, _, _, _)
         | Step::Library(t, _, _, _)
-        | Step::Allocate(t, _, _, _, _, _) => t,
+        | Step::Allocate(t, _, _, _, _, _)
+        | Step::ReturnHeld(t) => t,
         Step::Begin(x, size) => return raise(sizes, x as usize, size),
         Step::Store(_, _, _, _)
         | Step::CopyRecord(_, _, _, _)
@@ -85,14 +91,13 @@ fn count(step: Step, slots: &mut u64, sizes: &mut Vec<u32>)
         | Step::Text(_, _, _)
         | Step::Began(_, _)
         | Step::Return(_)
-        | Step::ReturnHeld(_)
         | Step::Fail(_, _) => return,
     };
     *slots = (u64::from(t) + 1).max(*slots);
 }
 
 /// How many words a function's locals and temporaries take, and how large the block of each local is.
-#[tactic(auto, using(crate::proofs::Lists::written_more, crate::proofs::Lists::sizes_more))]
+#[tactic(auto, using(crate::proofs::Lists::kept_more, crate::proofs::Lists::sizes_more))]
 fn needs(g: &Routine, sizes: &mut Vec<u32>) -> u64
     requires { sizes.old.items ≡ sizes_of_parameters 0 g.now.parameters (replicate (length g.now.locals) 0) }
     ensures slots { result ≡ slots (data_of g.now) }

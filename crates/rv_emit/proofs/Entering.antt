@@ -10,7 +10,7 @@ use Rattle.rv_isa.specs.Memory as M
 use Rattle.rv_isa.specs.Memory.{word_at, with_word}
 use Rattle.rv_steps.proofs.Words.{keeps_word, word_again}
 use Rattle.rv_code.specs.Code.{give_code, is_block, stack_place, steps_code}
-use Rattle.rv_code.specs.Frames.{block_places, block_sizes, slot_at, slots, written_in}
+use Rattle.rv_code.specs.Frames.{block_places, block_sizes, kept_in, slot_at, slots}
 use Rattle.rv_code.specs.declared.layout.Layout.{Layout}
 use Rattle.tac_ir.specs.Code.{RoutineData}
 use Rattle.tac_ir.specs.Running.{Caller, empty_slot}
@@ -28,7 +28,7 @@ use Rattle.rv_emit.proofs.Lists.{place_within}
 pub slots_long : (g : RoutineData) → length g.locals ≤ slots g
 slots_long g = by_code g.code (length g.locals)
   where
-    by_code : (code : List Step) (n : ℕ) → n ≤ written_in code n
+    by_code : (code : List Step) (n : ℕ) → n ≤ kept_in code n
     by_code [] n = omega arith
     by_code (s ∷ more) n = (let h = by_code more n in omega (arith, h))
 

@@ -22,7 +22,7 @@ use Rattle.c_meaning.specs.declared.frame.Slot.TheVariants.{ByName as by_name, I
 use Rattle.rv_isa.specs.Events.{MachineEvent}
 use Rattle.rv_isa.specs.Memory as M
 use Rattle.rv_isa.specs.Memory.{word_at}
-use Rattle.rv_code.specs.Frames.{block_sizes, sizes_in, sizes_of_parameters, sizes_with, slot_at, with_size}
+use Rattle.rv_code.specs.Frames.{block_size, block_sizes, sizes_in, sizes_of_parameters, sizes_with, slot_at, with_size}
 use Rattle.rv_code.specs.declared.layout.Layout.{Layout}
 use Rattle.rv_code.specs.declared.layout.Places.{Places}
 use Rattle.tac_ir.specs.Code.{Code, RoutineData}
@@ -85,7 +85,7 @@ code_long (s ∷ more) sizes = step_long s (sizes_in more sizes) ∙ code_long m
 
 parameters_long : (x : ℕ) (all : List Parameter) (sizes : List ℕ) → length (sizes_of_parameters x all sizes) ≡ length sizes
 parameters_long x [] sizes = refl
-parameters_long x (r ∷ more) sizes = size_long x r.size (sizes_of_parameters (x + 1) more sizes) ∙ parameters_long (x + 1) more sizes
+parameters_long x (r ∷ more) sizes = size_long x (block_size r) (sizes_of_parameters (x + 1) more sizes) ∙ parameters_long (x + 1) more sizes
 
 pub sizes_long : (g : RoutineData) → length (block_sizes g) ≡ length g.locals
 sizes_long g =

@@ -4,7 +4,7 @@ use Rattle.c_types.specs.Sameness.{same_type}
 use Rattle.c_types.specs.Types.{CType, pointer as pointer_to}
 use Rattle.tac_ir.specs.Code.{Code, RoutineData}
 use Rattle.tac_ir.specs.Jumps.{LeadsInsideIfAny, target_of}
-use Rattle.tac_ir.specs.Kinds.{KeepsKinds, taken_by}
+use Rattle.tac_ir.specs.Kinds.{KeepsKinds}
 use Rattle.tac_ir.specs.Running.{type_in}
 use Rattle.tac_ir.specs.declared.step.Operand.{Operand}
 use Rattle.tac_ir.specs.declared.step.Operand.TheVariants as O
@@ -12,7 +12,7 @@ use Rattle.tac_ir.specs.declared.step.Row.{Row}
 use Rattle.tac_ir.specs.declared.step.Step.{Step}
 use Rattle.tac_ir.specs.declared.step.Step.TheVariants as S
 use Rattle.rv_code.specs.Code.{is_block}
-use Rattle.rv_code.specs.Frames.{block_sizes, slots}
+use Rattle.rv_code.specs.Frames.{block_sizes, kept_by, slots}
 use Rattle.rv_code.specs.declared.layout.Places.{Places}
 use Rattle.rv_emit.specs.Maps.{HasBody}
 
@@ -99,7 +99,7 @@ module _ (types : List CType) (c : Code) (p : Places) where
     pub numbers : NumbersFit g s
     pub kinds : KeepsKinds g.locals s
     pub target : LeadsInsideIfAny g (target_of s)
-    pub slot : HasSlotIfAny g (taken_by s)
+    pub slot : HasSlotIfAny g (kept_by s)
     pub row : RowFitsIfAny g (row_of s)
     pub arguments : ArgumentsFit s
 
