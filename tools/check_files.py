@@ -1,5 +1,5 @@
 #!/usr/bin/env python3
-"""Tries the files that C programs are compiled to, which the program of `code_rows` gives.
+"""Tries the files that `layc compile --plain` makes of C programs.
 
 - Each program of `tools/programs` and of `examples/interp`: its file ends by `layc run` as its sources end by `layc interp`, and by QEMU's user-mode emulator
   as well, on its input and on beginnings of it.
@@ -43,20 +43,16 @@ int main(void) { putchar(65); ASK putchar(66); return 7; }
 """
 
 
-def row_of(files):
-    """The row that asks for the file of a program."""
-    lines = ["file it"]
-    for name, text in files.items():
-        lines.append("file " + name)
-        lines += ["|" + line for line in text.removesuffix("\n").split("\n")]
-    return "\n".join(lines) + "\n"
-
-
-def file_of(rows, files):
-    """The bytes of the ELF file of a program; None where there is none."""
-    done = checking.run([rows], input=row_of(files).encode())
-    head, _, digits = done.stdout.decode().strip().rpartition(" ")
-    return bytes.fromhex(digits) if head == "it: file" else None
+def compiled(folder, names):
+    """The path of the ELF file of a program; None where there is none."""
+    path = os.path.join(folder, "program.elf")
+    if os.path.exists(path):
+        os.remove(path)
+    done = checking.run([LAYC, "compile", "-o", path, "--plain", *names], cwd=folder)
+    if done.returncode != 0 or done.stdout != b"layc report 1\n":
+        return None
+    os.chmod(path, 0o755)
+    return path
 
 
 def ends(words, text, folder):
@@ -64,15 +60,11 @@ def ends(words, text, folder):
     return done.returncode, done.stdout
 
 
-def check_file(rows, what, folder, files, inputs, wanted_of):
-    made = file_of(rows, files)
-    check(made is not None, f"{what}: no file")
-    if made is None:
+def check_file(what, folder, names, inputs, wanted_of):
+    path = compiled(folder, names)
+    check(path is not None, f"{what}: no file")
+    if path is None:
         return
-    path = os.path.join(folder, "program.elf")
-    with open(path, "wb") as f:
-        f.write(made)
-    os.chmod(path, 0o755)
     for text in inputs:
         wanted = wanted_of(text)
         got = ends([LAYC, "run", "--steps", str(STEPS), path], text, folder)
@@ -82,29 +74,26 @@ def check_file(rows, what, folder, files, inputs, wanted_of):
             check(got == wanted, f"{what} on {len(text)} bytes by {EMULATOR}: {got[0]}, {len(got[1])} bytes; wanted {wanted[0]}, {len(wanted[1])} bytes")
 
 
-def check_programs(rows, folder):
+def check_programs(folder):
     for program in programs(PROGRAMS) + programs(EXAMPLES):
         names = [os.path.join(program.folder, name) for name in program.names]
-        check_file(rows, program.name, folder, program.files(), program.inputs(), lambda text: ends([LAYC, "interp", *names], text, folder))
+        check_file(program.name, folder, names, program.inputs(), lambda text: ends([LAYC, "interp", *names], text, folder))
 
 
-def check_room(rows, folder):
+def check_room(folder):
     for ask, has_room in ASKS:
-        made = file_of(rows, {"t.c": ASKING.replace("ASK", ask)})
-        check(made is not None, f"{ask}: no file")
-        if made is None:
+        csmith_programs.write_files(folder, {"t.c": ASKING.replace("ASK", ask)})
+        path = compiled(folder, ["t.c"])
+        check(path is not None, f"{ask}: no file")
+        if path is None:
             continue
-        path = os.path.join(folder, "room.elf")
-        with open(path, "wb") as f:
-            f.write(made)
-        os.chmod(path, 0o755)
         for words, breaks in [([LAYC, "run", "--steps", str(STEPS)], BREAKS)] + [([EMULATOR], -SIGTRAP)] * have_emulator:
             wanted = (7, b"AB") if has_room else (breaks, b"A")
             got = ends([*words, path], b"", folder)
             check(got == wanted, f"{ask} by {words[0]}: {got}; wanted {wanted}")
 
 
-def check_random(rows, folder, count):
+def check_random(folder, count):
     compared, seed, plain = 0, 0, Compiled("-O0", 60)
     while compared < count and seed < MOST_SEEDS_EACH * count:
         seed += 1
@@ -115,18 +104,19 @@ def check_random(rows, folder, count):
         if not is_short(folder, "t.c"):
             continue
         wanted = plain.run(folder, ["t.c"])
-        check_file(rows, f"seed {seed}", folder, {"t.c": text}, [b""], lambda _: (wanted.status, wanted.output))
+        check_file(f"seed {seed}", folder, ["t.c"], [b""], lambda _: (wanted.status, wanted.output))
         compared += 1
     print(f"{compared} random programs of {seed} seeds are compared")
 
 
-def check_instructions(rows, folder):
+def check_instructions(folder):
     """That objdump knows each instruction of a file's code."""
     if not have(DUMP):
         return
     program = programs(EXAMPLES)[0]
     path = os.path.join(folder, "program.bin")
-    made = file_of(rows, program.files())
+    with open(compiled(folder, [os.path.join(program.folder, name) for name in program.names]), "rb") as f:
+        made = f.read()
     length = int.from_bytes(made[52 + 16:52 + 20], "little")
     with open(path, "wb") as f:
         f.write(made[0x2000:0x1000 + length])
@@ -139,17 +129,16 @@ def check_instructions(rows, folder):
 def main():
     global have_emulator
     count = next((int(word) for word in sys.argv[1:] if word.isdigit()), COUNT)
-    rows, layc = checking.built("code_rows"), checking.built("layc")
-    if not rows or not layc:
-        print("skipped: the program of code_rows or layc cannot be built")
+    if not checking.built("layc"):
+        print("skipped: layc cannot be built")
         return 1
     have_emulator = have(EMULATOR)
     with tempfile.TemporaryDirectory() as folder:
-        check_programs(rows, folder)
-        check_room(rows, folder)
-        check_instructions(rows, folder)
+        check_programs(folder)
+        check_room(folder)
+        check_instructions(folder)
         if makes_programs() and csmith_programs.have_csmith():
-            check_random(rows, folder, count)
+            check_random(folder, count)
     print(f"check_files: {checking.made - checking.failed} checks hold, {checking.failed} do not")
     return 1 if checking.failed else 0
 

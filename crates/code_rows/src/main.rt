@@ -1,11 +1,9 @@
-//! Reads rows of C files and prints the three-address code of each program, to be compared with what was written down by hand, or its file.
+//! Reads rows of C files and prints the three-address code of each program, to be compared with what was written down by hand.
 //!
-//! A row is a block of lines: `code NAME` or `file NAME`, and its files, as `row_lines` has them. For each row the program prints `NAME:` and what is asked:
-//! the functions of its program that have a body, a step a line with how many steps are left there, which is what a jump names; or the file that the program
-//! is compiled to, in hexadecimal digits. A block that is no row is answered with that.
+//! A row is a block of lines: `code NAME` and its files, as `row_lines` has them. For each row the program prints `NAME:` and the functions of its program
+//! that have a body, a step a line with how many steps are left there, which is what a jump names. A block that is no row is answered with that.
 #![tactic(auto)]
 
-mod image_text;
 mod operand_text;
 mod operator_text;
 mod routine_text;
@@ -13,7 +11,6 @@ mod step_text;
 
 ghost use Rattle.std.specs.Prelude.{◌≤◌, All, IsTrue, length};
 
-use image_text::put_file;
 use lay_base::{File, Files};
 use lay_compile::front;
 use lower_tac::lower;
@@ -29,14 +26,7 @@ fn are_within_bounds(files: &[File]) -> bool
     files.len() <= 64 && files.iter().all(|file| file.bytes.len() <= 4_194_304)
 }
 
-/// What is asked of a program.
-#[derive(Clone, Copy)]
-enum Question {
-    Code,
-    File,
-}
-
-fn put_of_files(out: &mut Writer, alloc: Global, question: Question, files: &Files) {
+fn put_of_files(out: &mut Writer, alloc: Global, files: &Files) {
     if !are_within_bounds(files.as_slice()) {
         return out.word("too many files or bytes");
     }
@@ -44,23 +34,16 @@ fn put_of_files(out: &mut Writer, alloc: Global, question: Question, files: &Fil
         Err(_) => out.word("no program"),
         Ok(program) => match lower(alloc, &program) {
             Err(_) => out.word("out of memory"),
-            Ok(code) => match question {
-                Question::Code => put_code(out, &program, &code),
-                Question::File => put_file(out, alloc, &program, &code),
-            },
+            Ok(code) => put_code(out, &program, &code),
         },
     }
 }
 
-/// What the first line of a row asks, and the name of the row.
-fn question_in(block: &str) -> Result<(Question, &str), RowFault> {
+/// The name of a row.
+fn name_in(block: &str) -> Result<&str, RowFault> {
     for line in head_of(block).split('\n') {
         if !is_comment(line) {
-            return match line.split_once(' ') {
-                Some(("code", name)) => Ok((Question::Code, name)),
-                Some(("file", name)) => Ok((Question::File, name)),
-                _ => Err(RowFault::NoRow),
-            };
+            return line.strip_prefix("code ").ok_or(RowFault::NoRow);
         }
     }
     Err(RowFault::NoRow)
@@ -68,8 +51,8 @@ fn question_in(block: &str) -> Result<(Question, &str), RowFault> {
 
 /// Answers a row, or says why a block of lines is none.
 fn answer_row<W: Write>(alloc: Global, block: &str, output: &mut W) -> io::Result<()> {
-    let (question, name) = match question_in(block) {
-        Ok(asked) => asked,
+    let name = match name_in(block) {
+        Ok(name) => name,
         Err(fault) => return put_no_row(output, fault, block),
     };
     let files = match files_in(alloc, block) {
@@ -79,7 +62,7 @@ fn answer_row<W: Write>(alloc: Global, block: &str, output: &mut W) -> io::Resul
     let mut text = Writer::new(alloc);
     text.word(name);
     text.add(b":");
-    put_of_files(&mut text, alloc, question, &files);
+    put_of_files(&mut text, alloc, &files);
     text.add(b"\n");
     output.write_all(text.written()?)
 }

@@ -1,3 +1,10 @@
-//! From a program of files to its file: three-address code, machine code, the image and the ELF file; and the theorem, that the machine on the file does
-//! what the program does.
+//! From a program of files to its file: three-address code, machine code, the image and the ELF file.
+//!
+//! It stands on `lower_tac`, `rv_image` and `elf32`, whose stages it calls one after the other, on `rv_emit`, whose laws relate runs of code to the machine,
+//! and on the laws of `tac_runs`, `code_bounds`, `c_well_typed` and `c_printable`. It promises that the machine on the file of a program does what the program
+//! does by its meaning (`Agrees`), and with the heap just what the program does (`Real`).
 #![tactic(auto)]
+
+mod compiled;
+
+pub use compiled::compiled;

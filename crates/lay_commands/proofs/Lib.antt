@@ -1,5 +1,5 @@
 pub mod Files
-pub mod ThinPrograms
+pub mod NoPlaces
 pub mod Compiled
 pub mod Interpreted
 pub mod Refused

@@ -1,21 +1,18 @@
 -- What each stage of a command gives, by its answer. Want of memory says nothing.
 use Rattle.std.specs.Prelude.{◌≡◌, ℕ, List, take, slice_get, Option, Some, Result, Ok, Err, ◌⊎◌}
 use Rattle.lay_base.specs.Known.{Contents, Rose, IfKnown, Appends}
-use Rattle.lay_base.specs.declared.place.File.{File}
 use Rattle.refusals.specs.declared.refusal.Refusal.{Refusal}
 use Rattle.refusals.specs.declared.refusal.Refusal.TheVariants as R
-use Rattle.thin_code.specs.declared.thin_parser.thin_tree.Thin.{Thin}
-use Rattle.thin_code.specs.ThinParser.ThinTree.{program_of}
+use Rattle.c_typed.specs.Programs.{ProgramData}
 use Rattle.rv_isa.specs.declared.image.Image.{Image}
 use Rattle.rv_isa.specs.Step.{Exits, Trap, Break}
 use Rattle.elf32.specs.Loaded.{loaded}
 use Rattle.rv_machine.specs.declared.machine.MachineEnd.{MachineEnd}
 use Rattle.rv_machine.specs.declared.machine.MachineEnd.TheVariants as E
 use Rattle.command_words.specs.Words.{Compilation}
-use Rattle.lay_compile.specs.ProgramFiles.FrontEnd.{FilesAreRefused, IsRefused}
+use Rattle.lay_compile.specs.ProgramFiles.FrontEnd.{FilesAreRefused}
 use Rattle.lay_compile.specs.ProgramFiles.Outside.{Outside, IsUntouched, HoldsLonger}
-use Rattle.lay_compile.specs.ProgramFiles.Reading.{WereSo}
-use Rattle.lay_commands.specs.Compiling.{SpellThin, AreNotBuilt, IsDone, HostFailed, OutFailed, report}
+use Rattle.lay_commands.specs.Compiling.{WereProgram, IsBuilt, IsNotBuilt, IsDone, HostFailed, OutFailed, report}
 use Rattle.lay_commands.specs.Running.{elf_limit, HoldsElf, Ended, WouldGoOn, Stopped, StoppedInRead, StoppedInWrite}
 
 -- ---- a file, of either command that writes one
@@ -30,18 +27,12 @@ WriteGives writes_before writes_now before now name bytes (Err _) = ⊥
 
 -- ---- compile
 
--- files that are a program spell a thin one; a refusal has the name that is given
-abbrev pub ThinGives : (given : List ℕ) (files : List File) → Result Thin Refusal → Type 0
-ThinGives given files (Ok t) = SpellThin files (program_of t)
-ThinGives given files (Err (R.NotBuilt name)) = (name ≡ given) × AreNotBuilt files
-ThinGives given files (Err R.Memory) = Unit {0}
-ThinGives given files (Err _) = ⊥
-
--- the same of files that may be none
-abbrev pub ThinProgramGives : (given : List ℕ) (files : List File) → Result Thin Refusal → Type 0
-ThinProgramGives given files (Ok t) = SpellThin files (program_of t)
-ThinProgramGives given files (Err (R.NotBuilt name)) = (name ≡ given) × AreNotBuilt files
-ThinProgramGives given files (Err refusal) = IsRefused files refusal
+-- a program is compiled, or is not yet; a refusal has the name that is given
+abbrev pub BuildGives : (given : List ℕ) → Compilation → ProgramData → Result (Unit {0}) Refusal → Type 0
+BuildGives given c p (Ok done) = IsBuilt c p
+BuildGives given c p (Err (R.NotBuilt name)) = (name ≡ given) × IsNotBuilt c p
+BuildGives given c p (Err R.Memory) = Unit {0}
+BuildGives given c p (Err _) = ⊥
 
 -- the report is written
 abbrev pub ReportGives : (faults_before faults_now : ℕ) → (before now : Option (List ℕ)) → Result (Unit {0}) Refusal → Type 0
@@ -53,7 +44,7 @@ ReportGives faults_before faults_now before now (Err _) = ⊥
 abbrev pub CompileGives : Compilation → (before now : Outside) → Result (Unit {0}) Refusal → Type 0
 CompileGives c before now (Ok done) = IsDone c before now
 CompileGives c before now (Err (R.NotBuilt name)) =
-    (slice_get c.files 0 ≡ Some name) × WereSo before.files c.files AreNotBuilt × IsUntouched before now
+    (slice_get c.files 0 ≡ Some name) × WereProgram before.files c.files (IsNotBuilt c) × IsUntouched before now
 CompileGives c before now (Err R.WriteFault) = HostFailed c before now ⊎ OutFailed c before now
 CompileGives c before now (Err refusal) = FilesAreRefused c.files before now refusal
 

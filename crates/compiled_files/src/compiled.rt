@@ -1,0 +1,28 @@
+//! The file of a program.
+
+ghost use Rattle.std.specs.Prelude.{◌≡◌, ◌≤◌, IfOk};
+ghost use Rattle.std.specs.Prelude.{List as Sequence};
+ghost use Rattle.c_link.specs.Programs.{IsProgramOf};
+ghost use Rattle.c_typed.specs.Programs.{program_data};
+ghost use Rattle.compiled_files.specs.Files.{IsFileOf};
+ghost use Rattle.lay_base.specs.declared.place.File.{File};
+
+use c_typed::Typed;
+use code_bounds::programs_fit;
+use lay_base::NoMemory;
+use lower_tac::lower;
+use rv_image::image;
+use std::alloc::Global;
+
+/// The ELF file of a program of files, with so many MiB of heap, from 1 to 1024, and of stack, from 1 to 128.
+pub fn compiled(alloc: Global, p: &Typed, heap: u32, stack: u32) -> Result<Vec<u8>, NoMemory>
+    requires program { (files : Sequence File) × IsProgramOf files (program_data p.now) }
+    requires heap { (1 ≤ heap) × (heap ≤ 1024) }
+    requires stack { (1 ≤ stack) × (stack ≤ 128) }
+    ensures { IfOk result (λ elf. IsFileOf (program_data p.now) heap stack elf.items) }
+{
+    let code = lower(alloc, p)?;
+    programs_fit(p, &code);
+    let image = image(alloc, p, &code, heap, stack)?;
+    elf32::write(alloc, &image)
+}

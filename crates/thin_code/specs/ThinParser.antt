@@ -1,4 +1,0 @@
-pub mod ThinTree
-pub mod ThinText
-pub mod ThinScan
-pub mod ThinReading
