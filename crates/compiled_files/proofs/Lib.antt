@@ -1,3 +1,8 @@
-pub mod Events
-pub mod Room
-pub mod Agreeing
+pub mod Lengths
+pub mod Segments
+pub mod Standing
+pub mod Texts
+pub mod Layouts
+pub mod Functions
+pub mod Building
+pub mod Images
