@@ -29,6 +29,7 @@ use Rattle.compiled_files.proofs.Lengths.{StepsAreAsLong, FunctionsAreAsLong}
 use Rattle.compiled_files.proofs.Layouts.{inside_stands, inside_between}
 use Rattle.compiled_files.proofs.Functions.{text_place, entry_low, entry_whole, entry_high, entries_apart, function_stands, texts_placed}
 
+-- a look-up with a default gives what is there
 get_is : (all : List ℕ) (i x : ℕ) → slice_get all i ≡ Some x → x ≡ get_or all i 0
 get_is [] i x e = absurd cc
 get_is (y ∷ all) zero x e = cc

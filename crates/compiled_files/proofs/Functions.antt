@@ -19,7 +19,7 @@ text_place at [] f = at
 text_place at (g ∷ more) zero = at
 text_place at (g ∷ more) (suc f) = text_place (texts_end at g) more f
 
--- ---- entries
+-- ---- entries, which ascend
 
 ends_behind : (at : ℕ) (gs : List RoutineData) → at ≤ entries_end at gs
 ends_behind at [] = omega arith
@@ -54,7 +54,7 @@ entries_apart at (r ∷ more) zero (suc h) g k e d lt =
     (entry_low (at + 4 * words_of_function r) more h k d)
 entries_apart at (r ∷ more) (suc f) (suc h) g k e d lt = entries_apart (at + 4 * words_of_function r) more f h g k e d (omega arith)
 
--- ---- code
+-- ---- code, one function behind the other
 
 module _ (as_long : FunctionsAreAsLong) (ground : Ground) (p : Places) where
   pub function_stands : (at texts : ℕ) (gs : List RoutineData) (f : ℕ) (g : RoutineData) → slice_get gs f ≡ Some g
@@ -74,6 +74,7 @@ module _ (as_long : FunctionsAreAsLong) (ground : Ground) (p : Places) where
 
 -- ---- texts
 
+-- each text of one function has the place of its number
 text_placed : (at : ℕ) (texts : List (List ℕ)) (n : ℕ) (bytes : List ℕ) → slice_get texts n ≡ Some bytes
     → Contains (with_places (places_from at (map length texts)) texts) (slice_index (places_from at (map length texts)) n, bytes)
 text_placed at [] n bytes e = absurd cc

@@ -15,7 +15,7 @@ use Rattle.rv_emit.specs.Grounds.{Ground}
 use Rattle.rv_emit.proofs.Moves.{code_back}
 use Rattle.compiled_files.proofs.Lengths.{StepsAreAsLong, FunctionsAreAsLong}
 
--- ---- sums of words
+-- ---- sums of words, which a layout has from the last step on
 
 abbrev total : (Step → ℕ) → List Step → ℕ
 total f [] = 0

@@ -68,7 +68,7 @@ module _ (text globals : List ℕ) (heap stack : ℕ) where
         (or_right (has flag (a + i) stack_segment) _
         (or_left (has flag (a + i) heap_segment) _ (has_yes flag (a + i) heap_segment may (omega arith) (omega arith))))))
 
-  -- ---- what is told
+  -- ---- accesses are told in the heap alone
 
   below_heap : (a : ℕ) → a < 0x20000000 → is_heap four a ≡ false
   below_heap a lt = rw (below_segment heap_segment a lt) refl
