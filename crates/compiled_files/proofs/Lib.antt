@@ -1,8 +1,9 @@
-pub mod Lengths
-pub mod Segments
-pub mod Standing
-pub mod Texts
-pub mod Layouts
-pub mod Functions
-pub mod Building
-pub mod Images
+pub mod Putting
+pub mod Objects
+pub mod Globals
+pub mod Loaded
+pub mod Owners
+pub mod FirstWorld
+pub mod FirstSteps
+pub mod FirstCall
+pub mod FirstRun
