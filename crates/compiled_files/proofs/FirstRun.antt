@@ -42,11 +42,10 @@ module _ (p : ProgramData) (t : Tac) (heap stack : ℕ) (fits : Fits p t) (sound
     -- the ground is that of the image
     (ground : Ground) (text_is : (a : ℕ) → ground.text a ≡ M.initial_memory (image_of p (code_of t) heap stack).segments a)
     (room_is : ground.room ≡ room_of p (code_of t) heap stack)
-    -- texts stand among the data, behind the objects
+    -- texts stand among the data
     (texts_hold : (at : ℕ) (bytes : List ℕ) → Contains (placed p (code_of t)).texts (at, bytes)
     → Holds (M.initial_memory (image_of p (code_of t) heap stack).segments) at bytes × (0x08000100 ≤ at)
     × (at + length bytes ≤ (room_of p (code_of t) heap stack).data_end))
-    (texts_later : (at : ℕ) (bytes : List ℕ) → Contains (placed p (code_of t)).texts (at, bytes) → texts_at p ≤ at)
     -- the code stands
     (built : IsBuilt ground (placed p (code_of t)))
     (stands : Here ground (placed p (code_of t)) code_address
@@ -73,7 +72,7 @@ module _ (p : ProgramData) (t : Tac) (heap stack : ℕ) (fits : Fits p t) (sound
       subst (λ top. Here ground (placed p c) code_address (Lui 2 (top / 2 ^ 12) ∷ call_code main)) (sym stack_end) (stands.0, (stands.1.0, (stands.1.1.0, tt)))
 
   world : (input : List ℕ) (turns : ℕ) → Worldly ground (placed p c) (blocks_of p) (owner_of p) (start p input turns false) memory input [] []
-  world input turns = first_world p t heap stack fits sound bytes ground text_is room_is texts_hold texts_later input turns false
+  world input turns = first_world p t heap stack fits sound bytes ground text_is room_is texts_hold input turns false
 
   module _ (Claim : Claims) (claims : AreClaims ground (placed p c) Claim) (next : Next) (follows : Follows ground (placed p c) Claim next)
       -- where no turn is left the run goes on, wherever the machine stands
@@ -104,7 +103,7 @@ module _ (p : ProgramData) (t : Tac) (heap stack : ℕ) (fits : Fits p t) (sound
             by_start ground goal memory w.keeps (λ r. 0) ground.room.stack_end main refl begins (omega (arith, stack_end)) laid.entry.whole
             (omega (arith, laid.entry.small)) laid.entry.code
             λ f nil one top. by_entry ground (placed p c) (blocks_of p) (owner_of p) (start p input (suc n) false) memory input [] [] w
-            (λ a le lt. no_owner p t heap stack fits sound bytes ground text_is room_is texts_hold texts_later a (omega arith))
+            (λ a le lt. no_owner p t heap stack fits sound bytes ground text_is room_is texts_hold a (omega arith))
             (omega (arith, stack_end)) refl c.main g l laid enough built.end Claim claims next follows none n f nil one top code
 
         by_code : (n : ℕ) (g : RoutineData) → slice_get c.routines c.main ≡ Some g → (code : List Step) → g.code ≡ code

@@ -31,7 +31,8 @@ use Rattle.compiled_files.specs.Sound.{IsSound}
 use Rattle.rv_image.proofs.Fitting.{one_for_each}
 use Rattle.rv_image.proofs.Lengths.{data_length}
 use Rattle.rv_emit.proofs.Lists.{get_below, place_within}
-use Rattle.compiled_files.proofs.Globals.{TextsAreBytes, ends_inside, globals_agree, globals_own, globals_small, index_of_map, own_length, texts_behind}
+use Rattle.compiled_files.proofs.Globals.{TextsAreBytes, ends_inside, globals_agree, globals_own, globals_small, index_of_map, own_length, placed_later}
+use Rattle.compiled_files.proofs.Globals.{texts_behind}
 use Rattle.compiled_files.proofs.Loaded.{all_small, data_is, globals, zero_behind}
 use Rattle.compiled_files.proofs.Objects.{AreObjects, object_cells, object_long}
 use Rattle.compiled_files.proofs.Owners.{extent_of, extents_from, extents_long, of_extent, owner_among, owner_behind, owner_below, owner_within}
@@ -70,8 +71,7 @@ module _ (p : ProgramData) (t : Tac) (heap stack : ℕ) (fits : Fits p t) (sound
     (room_is : ground.room ≡ room_of p (code_of t) heap stack)
     (texts_hold : (at : ℕ) (bytes : List ℕ) → Contains (placed p (code_of t)).texts (at, bytes)
     → Holds (M.initial_memory (image_of p (code_of t) heap stack).segments) at bytes × (0x08000100 ≤ at)
-    × (at + length bytes ≤ (room_of p (code_of t) heap stack).data_end))
-    (texts_later : (at : ℕ) (bytes : List ℕ) → Contains (placed p (code_of t)).texts (at, bytes) → texts_at p ≤ at) where
+    × (at + length bytes ≤ (room_of p (code_of t) heap stack).data_end)) where
   abbrev c : Code
   c = code_of t
 
@@ -132,7 +132,7 @@ module _ (p : ProgramData) (t : Tac) (heap stack : ℕ) (fits : Fits p t) (sound
             (within e (omega (arith, place.0, h.2)) (omega (arith, place.1, h.2, h.3, texts_low)) o.text);
       }
 
-  -- what a cell of a block is one of
+  -- a cell of a block is one of an object's, within its extent
   record OfObject (b i : ℕ) (e : Extent) (cell : Cell) : Type 0 where
     o : Object
     is : slice_get p.objects b ≡ Some o
@@ -215,7 +215,7 @@ module _ (p : ProgramData) (t : Tac) (heap stack : ℕ) (fits : Fits p t) (sound
         runtime = λ a low high. owner_below 0 objects_at (object_sizes p) a (omega arith);
         texts = λ a bytes is.
             let h = texts_hold a bytes is in
-            let le = texts_later a bytes is in
+            let le = placed_later (texts_at p) c.routines a bytes is in
             (h.0, h.1, omega (arith, h.2, data_end), λ i lt. owner_behind 0 objects_at (object_sizes p) (a + i) (omega arith));
         input_is = refl;
         output_is = refl;

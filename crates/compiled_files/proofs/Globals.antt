@@ -1,20 +1,22 @@
 -- The data of a program: the runtime's own come first, then the objects, each as it is at first, and the texts behind them.
 use Rattle.std.proofs.Common.{◌≡◌, ℕ, zero, suc, ◌+◌, ◌-◌, ◌^◌, ◌<◌, ◌≤◌, inl, List, [], ◌∷◌, ◌++◌, length, map, Some}
 use Rattle.std.proofs.Common.{slice_get, slice_index, refl, ap, ◌∙◌, sym, subst, arith}
-use Rattle.std.specs.Prelude.{All, replicate}
+use Rattle.std.specs.Prelude.{All, Contains, replicate}
 use Rattle.std.specs.Int.{w32, to_le_bytes}
 use Rattle.std.proofs.lemmas.List.{get_or_append_left, get_or-append_right, length-append, length-map, length-replicate}
-use Rattle.std.proofs.lemmas.List.Elements.{All-append, All-head, All-replicate, All-tail}
+use Rattle.std.proofs.lemmas.List.Elements.{All-append, All-cons, All-contains, All-head, All-nil, All-replicate, All-tail}
 use Rattle.c_typed.specs.Programs.{ProgramData}
 use Rattle.c_typed.specs.declared.program.Object.{Object}
 use Rattle.c_meaning.specs.Program.{object_size}
-use Rattle.rv_code.specs.Frames.{end_from, whole_words}
+use Rattle.rv_code.specs.Frames.{end_from, places_from, whole_words}
+use Rattle.rv_code.specs.Programs.{texts_end, texts_from}
 use Rattle.rv_code.specs.declared.layout.Places.{Places}
 use Rattle.tac_ir.specs.Code.{Code, RoutineData}
 use Rattle.rv_emit.specs.Maps.{Extents, Shows}
 use Rattle.rv_image.specs.Data.{data_of_program, data_size, empty_data, object_places, object_sizes, objects_at}
 use Rattle.rv_image.specs.Data.{put_all_texts, put_bytes, put_objects, put_texts, texts_at}
 use Rattle.rv_image.proofs.Walks.{all_ends_behind}
+use Rattle.compiled_files.specs.Placing.{placed_texts, with_places}
 use Rattle.compiled_files.specs.Sound.{ObjectsFit}
 use Rattle.rv_isa.specs.Events.{heap_start}
 use Rattle.rv_runtime.specs.Bytes.{data_bytes, zeros}
@@ -46,6 +48,26 @@ texts_small at [] all new old = old
 texts_small at (text ∷ more) all new old =
     texts_small (at + whole_words (length text)) more (put_bytes (at - data_place) text all) (All-tail AreBytes text more new)
     (put_small (at - data_place) text all (All-head AreBytes text more new) old)
+
+-- each of them lies behind where the first one begins
+abbrev Later : (low : ℕ) → (ℕ × List ℕ) → Type 0
+Later low x = low ≤ x.0
+
+texts_later : (low at : ℕ) (texts : List (List ℕ)) → low ≤ at → All (Later low) (with_places (places_from at (map length texts)) texts)
+texts_later low at [] le = All-nil (Later low)
+texts_later low at (text ∷ more) le =
+    let next = at + whole_words (length text) in
+    All-cons (Later low) (at, text) (with_places (places_from next (map length more)) more) le (texts_later low next more (omega arith))
+
+all_texts_later : (low at : ℕ) (gs : List RoutineData) → low ≤ at → All (Later low) (placed_texts at gs)
+all_texts_later low at [] le = All-nil (Later low)
+all_texts_later low at (g ∷ more) le =
+    let end = end_above at (map length g.texts) in
+    All-append (Later low) (with_places (texts_from at g) g.texts) (placed_texts (texts_end at g) more) (texts_later low at g.texts le)
+    (all_texts_later low (texts_end at g) more (omega (arith, end)))
+
+pub placed_later : (at : ℕ) (gs : List RoutineData) (a : ℕ) (bytes : List ℕ) → Contains (placed_texts at gs) (a, bytes) → at ≤ a
+placed_later at gs a bytes is = All-contains (Later at) (placed_texts at gs) (a, bytes) (all_texts_later at at gs (omega arith)) is
 
 -- texts are lists of bytes
 abbrev pub TextsAreBytes : List RoutineData → Type 0
@@ -96,6 +118,7 @@ module _ (p : ProgramData) (c : Code) (heap_end : ℕ) where
   abbrev rest : List ℕ
   rest = replicate (data_size p c - 256) 0
 
+  -- before objects and texts are put there
   empty_own : (j : ℕ) → j < 256 → slice_index (empty_data p c heap_end) j ≡ slice_index own j
   empty_own j lt = get_or_append_left own rest 0 j (omega (arith, own_length heap_end))
 

@@ -104,7 +104,7 @@ module _ (p : ProgramData) (t : Tac) (heap stack : ℕ) (fits : Fits p t) where
   abbrev pub segments : List Segment
   segments = (image_of p (code_of t) heap stack).segments
 
-  -- its first byte, and what follows
+  -- the stack and the heap, which are zero
   abbrev rooms : List Segment
   rooms = room_segment stack_address stack ∷ room_segment heap_address heap ∷ []
 

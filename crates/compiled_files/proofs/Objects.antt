@@ -77,6 +77,7 @@ module _ (c : Code) (q : Places) (blocks : Extents) where
   abbrev pub Agree : (cells : List Cell) (bytes : List ℕ) (at : ℕ) → Type 0
   Agree cells bytes at = (i : ℕ) (cell : Cell) → slice_get cells i ≡ Some cell → Shows c q blocks cell (slice_index bytes (at + i))
 
+  -- by its number a cell is known
   byte_shows : (x byte : ℕ) (cell : Cell) → Some (C.Byte x) ≡ Some cell → byte ≡ x → Shows c q blocks cell byte
   byte_shows x byte cell e same = (let d : C.Byte x ≡ cell = cc in subst (λ z. Shows c q blocks z byte) d same)
 
@@ -127,6 +128,7 @@ module _ (c : Code) (q : Places) (blocks : Extents) where
 
 -- ---- what a list of values makes of an object
 
+-- cells that are written over others are as many
 over_long : (all new : List Cell) (at : ℕ) → at + length new ≤ length all → length (take at all ++ new ++ drop (at + length new) all) ≡ length all
 over_long all new at le =
     omega (
@@ -249,6 +251,7 @@ module _ (p : ProgramData) (c : Code) (q : Places) (blocks : Extents) (known : A
   initial_is at None all = refl
   initial_is at (Some values) all = refl
 
+  -- where an object lies all was zero
   object_agrees : (o : Object) (all : List ℕ) (at : ℕ) → ObjectFits o → at + object_size p o ≤ length all
       → ((j : ℕ) → at ≤ j → slice_index all j ≡ 0) → Agree c q blocks (object_cells p o) (put_initial q at o.initial all) at
   object_agrees o all at fits within nil =
