@@ -50,7 +50,7 @@ module _ (p : ProgramData) (c : Code) (heap stack : ℕ) (ground : Ground) (room
 
   -- ---- what the source comes to
 
-  shown_by : SourceEnd → Shown
+  abbrev shown_by : SourceEnd → Shown
   shown_by (Ends output status rest) = shows (Exits status) output rest
   shown_by (GoesOn output rest) = shows Running output rest
   shown_by (Undefined kind place output rest) = shows Running output rest
@@ -108,7 +108,7 @@ module _ (p : ProgramData) (c : Code) (heap stack : ℕ) (ground : Ground) (room
     }
       where
         among_stack : Contains image.segments (room_segment stack_address stack)
-        among_stack = ?
+        among_stack = (2, omega arith, refl)
 
         among_heap : Contains image.segments (room_segment heap_address heap)
-        among_heap = ?
+        among_heap = (3, omega arith, refl)

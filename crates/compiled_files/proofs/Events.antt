@@ -20,7 +20,7 @@ abbrev pub place_in : Extents → (block : ℕ) → ℕ
 place_in blocks b = place_if_any (slice_get blocks b)
 
 -- from the last event back to the first, and forth
-back : List MachineEvent → List MachineEvent
+abbrev back : List MachineEvent → List MachineEvent
 back [] = []
 back (e ∷ more) = back more ++ e ∷ []
 

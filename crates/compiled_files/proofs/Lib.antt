@@ -1,3 +1,11 @@
+pub mod Lengths
+pub mod Segments
+pub mod Standing
+pub mod Texts
+pub mod Layouts
+pub mod Functions
+pub mod Building
+pub mod Images
 pub mod Putting
 pub mod Objects
 pub mod Globals
@@ -7,3 +15,6 @@ pub mod FirstWorld
 pub mod FirstSteps
 pub mod FirstCall
 pub mod FirstRun
+pub mod Events
+pub mod Room
+pub mod Agreeing

@@ -14,7 +14,7 @@ use Rattle.rv_code.specs.Frames.{frame_size}
 use Rattle.rv_code.specs.declared.layout.Layout.{Layout}
 use Rattle.rv_emit.specs.Claims.{AllocationsHaveRoom, CallsHaveRoom, Claim as Claimed, Claims}
 use Rattle.rv_emit.specs.Grounds.{Ground}
-use Rattle.rv_emit.specs.Maps.{Extents}
+use Rattle.rv_emit.specs.Maps.{Extents, Room}
 use Rattle.rv_emit.specs.Relation as Relation
 use Rattle.rv_emit.specs.Relation.{Callers, IsLaid, Moment, Point, Ready}
 use Rattle.rv_isa.specs.Events.{MachineEvent, heap_start}
@@ -77,15 +77,15 @@ module _ (p : ProgramData) (c : Code) (heap stack : ℕ) (ground : Ground) (room
   frames_reach blocks owner memory (k ∷ numbers) [] sp back h = absurd h
   frames_reach blocks owner memory (k ∷ numbers) (one ∷ more) sp back h =
       let l = h.0 in
-      let rest = frames_reach blocks owner memory numbers more (sp + l.size) (M.word_at memory sp) h.8 in
+      let rest = frames_reach blocks owner memory numbers more (sp + l.size) (M.word_at memory sp) h.7 in
       let size = frame_is k one.routine l h.1.laid in
       omega (arith, rest, size)
 
   stack_is : ground.room.stack_end ≡ stack_place + stack * 2 ^ 20
-  stack_is = ap (λ (r : Relation.Room). r.stack_end) room
+  stack_is = ap (λ (r : Room). r.stack_end) room
 
   heap_is : ground.room.heap_end ≡ heap_start + heap * 2 ^ 20
-  heap_is = ap (λ (r : Relation.Room). r.heap_end) room
+  heap_is = ap (λ (r : Room). r.heap_end) room
 
   module _ (earlier : EarlierFits) (adds : RunsAdd) (steps_add : StepsAdd) where
     -- where the run of a body fits, the function that was entered has had room
