@@ -1,5 +1,5 @@
 -- Calls of `exit`, and returns of what a temporary holds.
-use Rattle.std.proofs.Common.{◌≡◌, ◌≢◌, ℕ, ◌+◌, ◌*◌, ◌/◌, ◌%◌, ◌^◌, ◌<◌, inl, inr, Bool, true, false, cond, List, [], ◌∷◌, ◌++◌, length, Option, Some, None, slice_get, slice_index, refl, ap, sym, ◌∙◌, subst, arith, append_assoc}
+use Rattle.std.proofs.Common.{◌≡◌, ℕ, ◌+◌, ◌*◌, ◌/◌, ◌%◌, ◌^◌, ◌<◌, inl, inr, Bool, true, false, cond, List, [], ◌∷◌, ◌++◌, length, Option, Some, None, slice_get, slice_index, refl, ap, sym, ◌∙◌, subst, arith, append_assoc}
 use Rattle.lay_base.specs.declared.faults.UndefinedKind.TheVariants as K
 use Rattle.lay_base.specs.declared.place.Place.{Place}
 use Rattle.c_typed.specs.declared.operators.LibraryFunction.TheVariants as L
@@ -102,29 +102,27 @@ module _ (ground : Ground) (p : Program) (built : IsBuilt ground p) (Claim : Cla
   Left v = Claim (end_all m.frame (λ u own w. returns p.types p.code next m.callers v (record w { depth = less_deep w.depth; trace = E.left ∷ w.trace })) m.frame m.w)
       m.w.turns (state q) q.before
 
-  -- the temporary has a word, and in `main` it holds a value
-  pub return_held_works : (t : ℕ) → t < slots m.g → (m.callers ≡ [] → value_in (slice_get m.frame t) ≢ None)
-      → Works ground p built Claim claims next m q (S.ReturnHeld t)
-  return_held_works t lt some code fits = by_slot (slice_get m.frame t) refl some
+  pub return_held_works : (t : ℕ) → Works ground p built Claim claims next m q (S.ReturnHeld t)
+  return_held_works t code fits = by_slot (slice_get m.frame t) refl
     where
-      nothing : (m.callers ≡ [] → value_in None ≢ None) → Left None
-      nothing some =
+      nothing : Left None
+      nothing =
           let get = temporary_code m.g m.l 10 t in
           let rest = steps_code p.places m.g m.l m.more in
           let d = parts ground q.pc get (return_code m.l) rest code in
-          any_in _ m.w.turns t (is_block m.g t) (return_code m.l ++ rest) lt (subst (Here ground p q.pc) (append_assoc get (return_code m.l) rest) code)
+          any_in _ m.w.turns t (is_block m.g t) (return_code m.l ++ rest) fits.slot (subst (Here ground p q.pc) (append_assoc get (return_code m.l) rest) code)
           λ x. returned_from ground p built Claim claims next follows m (with_register q 10 x get)
           (moved ground p built Claim claims m q ready (ends 0 m.w) m.w.turns 10 (omega arith) (omega arith) x get) None x rest
-          (record { small = λ u e. absurd cc; means = λ u e. absurd cc }) refl some d.1
+          (record { small = λ u e. absurd cc; means = λ u e. absurd cc }) refl d.1
 
-      by_slot : (o : Option Slot) → slice_get m.frame t ≡ o → (m.callers ≡ [] → value_in o ≢ None) → Left (value_in o)
-      by_slot (Some (by_name (Some v))) is some =
+      by_slot : (o : Option Slot) → slice_get m.frame t ≡ o → Left (value_in o)
+      by_slot (Some (by_name (Some v))) is =
           let get = temporary_code m.g m.l 10 t in
           let rest = steps_code p.places m.g m.l m.more in
           let d = parts ground q.pc get (return_code m.l) rest code in
           get_temporary ground p built Claim claims m q ready _ m.w.turns 10 (omega arith) (omega arith) t v (inl is) d.0
           λ x means small ready'. returned_from ground p built Claim claims next follows m (with_register q 10 x get) ready' (Some v) x rest
-          (record { small = λ u e. small; means = λ u e. let k : v ≡ u = cc in subst (λ i. Means p.code p.places m.blocks i x) k means }) refl some d.1
-      by_slot (Some (by_name None)) is some = nothing some
-      by_slot (Some (in_block b)) is some = nothing some
-      by_slot None is some = nothing some
+          (record { small = λ u e. small; means = λ u e. let k : v ≡ u = cc in subst (λ i. Means p.code p.places m.blocks i x) k means }) refl d.1
+      by_slot (Some (by_name None)) is = nothing
+      by_slot (Some (in_block b)) is = nothing
+      by_slot None is = nothing

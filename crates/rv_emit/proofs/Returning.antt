@@ -1,5 +1,5 @@
 -- Returns: the frame is left, and the caller goes on, or the run ends.
-use Rattle.std.proofs.Common.{◌≡◌, ◌≢◌, ℕ, ◌+◌, ◌*◌, ◌/◌, ◌%◌, ◌^◌, ◌<◌, ◌≤◌, inl, inr, List, [], ◌∷◌, ◌++◌, length, Option, Some, None, pos, refl, ap, sym, ◌∙◌, subst, arith, drop}
+use Rattle.std.proofs.Common.{◌≡◌, ℕ, ◌+◌, ◌*◌, ◌/◌, ◌%◌, ◌^◌, ◌<◌, ◌≤◌, inl, inr, List, [], ◌∷◌, ◌++◌, length, Option, Some, None, pos, refl, ap, sym, ◌∙◌, subst, arith, drop}
 use Rattle.std.proofs.lemmas.Int.{ints}
 use Rattle.lay_base.specs.declared.faults.UndefinedKind.TheVariants as Undefined
 use Rattle.block_memory.specs.RunWorlds.Doing.{less_deep}
@@ -73,8 +73,8 @@ module _ (ground : Ground) (p : Program) (built : IsBuilt ground p) (Claim : Cla
   comes_out : (numbers : List ℕ) (callers : List Caller) (owner : ℕ → Option ℕ) (w : World) (v : Option Value) (x n : ℕ) (f : ℕ → ℕ)
       → Callers ground p m.blocks owner q.memory numbers callers top back → Worldly ground p m.blocks owner w q.memory q.input q.output q.before
       → ((a : ℕ) → 0x10000000 ≤ a → a < top → owner a ≡ None) → active w.trace ≡ numbers → n ≡ w.turns → Returned v x → f 0 ≡ 0 → f 2 ≡ top → f 10 ≡ x
-      → (callers ≡ [] → v ≢ None) → Claim (returns p.types p.code next callers v w) n (at f back q.memory q.input q.output) q.before
-  comes_out (number ∷ numbers) (one ∷ callers) owner w v x n f h world below runs turns value nil sp ten some =
+      → Claim (returns p.types p.code next callers v w) n (at f back q.memory q.input q.output) q.before
+  comes_out (number ∷ numbers) (one ∷ callers) owner w v x n f h world below runs turns value nil sp ten =
       let m' : Moment = record {
         blocks = m.blocks;
         owner = owner;
@@ -103,13 +103,13 @@ module _ (ground : Ground) (p : Program) (built : IsBuilt ground p) (Claim : Cla
       } in
       subst (λ k. Claim (returns p.types p.code next (one ∷ callers) v w) k (state q') q'.before) (sym turns)
       (by_give ground p built Claim claims next follows m' q' ready' 10 one.to x v (omega arith) (λ d. omega arith) ten value.small h.5 h.6 value.means h.3)
-  comes_out [] [] owner w v x n f h world below runs turns value nil sp ten some = by_value v refl (some refl)
+  comes_out [] [] owner w v x n f h world below runs turns value nil sp ten = by_value v refl
     where
       -- the word that is returned is the status
-      by_value : (o : Option Value) → v ≡ o → o ≢ None → Claim (end_by p.code.place o w) n (at f back q.memory q.input q.output) q.before
-      by_value None e some = absurd (some refl)
-      by_value (Some (pointer r)) e some = claims.undefined Undefined.Pointer p.code.place w n (at f back q.memory q.input q.output) q.before
-      by_value (Some (word k)) e some =
+      by_value : (o : Option Value) → v ≡ o → Claim (end_by p.code.place o w) n (at f back q.memory q.input q.output) q.before
+      by_value None e = claims.undefined Undefined.NoValue p.code.place w n (at f back q.memory q.input q.output) q.before
+      by_value (Some (pointer r)) e = claims.undefined Undefined.Pointer p.code.place w n (at f back q.memory q.input q.output) q.before
+      by_value (Some (word k)) e =
           let code = subst (λ pc. Here ground p pc (Addi 17 0 (pos 93) ∷ Ecall ∷ [])) (sym h.1) built.exits in
           let end = subst (λ pc. 0x00011000 ≤ pc) (sym h.1) built.end.code in
           let e' = ends (k % 2 ^ 8) w in
@@ -120,8 +120,8 @@ module _ (ground : Ground) (p : Program) (built : IsBuilt ground p) (Claim : Cla
           by_addi ground goal f back q.memory world.keeps end 17 0 93 (pos 93) code.0 (omega arith) (omega arith) (ap (λ (z : ℕ). plus z (pos 93)) nil)
           (claims.exits m.blocks (k % 2 ^ 8) w n (at f' (back + 4) q.memory q.input q.output) q.before
           (stops ∙ ap (λ (z : ℕ). Ends (Exits (z % 2 ^ 8))) (ten ∙ means)) world.output_is world.input_is world.made)
-  comes_out [] (one ∷ callers) owner w v x n f h world below runs turns value nil sp ten some = elim h [ ]
-  comes_out (number ∷ numbers) [] owner w v x n f h world below runs turns value nil sp ten some = elim h [ ]
+  comes_out [] (one ∷ callers) owner w v x n f h world below runs turns value nil sp ten = elim h [ ]
+  comes_out (number ∷ numbers) [] owner w v x n f h world below runs turns value nil sp ten = elim h [ ]
 
   back_place : (numbers : List ℕ) (callers : List Caller) → Callers ground p m.blocks m.owner q.memory numbers callers top back → IsPlace back
   back_place [] [] h = subst IsPlace (sym h.1) built.end
@@ -130,11 +130,11 @@ module _ (ground : Ground) (p : Program) (built : IsBuilt ground p) (Claim : Cla
   back_place (number ∷ numbers) (one ∷ callers) h = h.2
 
   -- the instructions of a return, with the value in x10
-  pub returned_from : (v : Option Value) (x : ℕ) (tail : List Inst) → Returned v x → q.f 10 ≡ x → (m.callers ≡ [] → v ≢ None)
+  pub returned_from : (v : Option Value) (x : ℕ) (tail : List Inst) → Returned v x → q.f 10 ≡ x
       → Here ground p q.pc (return_code m.l ++ tail)
       → Claim (end_all m.frame (λ u own w. returns p.types p.code next m.callers v (record w { depth = less_deep w.depth; trace = E.left ∷ w.trace })) m.frame m.w)
       m.w.turns (state q) q.before
-  returned_from v x tail value ten some code =
+  returned_from v x tail value ten code =
       let fr = ready.frame in
       let stack = ground.stack_end in
       by_ends ground p Claim m.blocks q.memory q.input q.output q.before m.numbers m.callers m.sp top back m.frame m.owner m.w _ m.frame m.w.turns (state q)
@@ -168,23 +168,23 @@ module _ (ground : Ground) (p : Program) (built : IsBuilt ground p) (Claim : Cla
       (by_jalr ground.segments ground.text (Claim e) (claims.backward e) f3 (pc2 + 4) q.memory q.input q.output keeps (omega (arith, ready.code)) m.w.turns q.before back
       place.whole place.code 1 (pos 0) c2.1.0 (omega arith) to
       (comes_out m.numbers m.callers new w v x m.w.turns f3 left.waiting (after_world new after left.world) left.below
-      (ap (λ (t : List E.Event). drop 1 (active t)) trace ∙ ap (drop 1) ready.runs) (sym turns) value ready.nil refl ten some)))))
+      (ap (λ (t : List E.Event). drop 1 (active t)) trace ∙ ap (drop 1) ready.runs) (sym turns) value ready.nil refl ten)))))
     where
       room : m.sp + 4 ≤ ground.room.stack_end
       room = (let end = frame_end ground p m.blocks m.owner m.number m.g m.l ready.frame.laid in omega (arith, ready.frame.high, end.0))
 
--- a value is returned, or none, which is no status
+-- a value is returned, or none
 pub return_works : (ground : Ground) (p : Program) (built : IsBuilt ground p) (Claim : Claims) (claims : AreClaims ground p Claim) (next : Next)
-    (follows : Follows ground p Claim next) (m : Moment) (q : Point) → Ready ground p m q → (a : Option Operand) → (m.callers ≡ [] → a ≢ None)
+    (follows : Follows ground p Claim next) (m : Moment) (q : Point) → Ready ground p m q → (a : Option Operand)
     → Works ground p built Claim claims next m q (S.Return a)
-return_works ground p built Claim claims next follows m q ready None some code fits =
+return_works ground p built Claim claims next follows m q ready None code fits =
     returned_from ground p built Claim claims next follows m q ready None (q.f 10) (steps_code p.places m.g m.l m.more)
-    (record { small = λ u e. absurd cc; means = λ u e. absurd cc }) refl (λ e. absurd (some e refl)) code
-return_works ground p built Claim claims next follows m q ready (Some a) some code fits =
+    (record { small = λ u e. absurd cc; means = λ u e. absurd cc }) refl code
+return_works ground p built Claim claims next follows m q ready (Some a) code fits =
     let get = get_code p.places m.g m.l 10 a in
     let d = parts ground q.pc get (return_code m.l) (steps_code p.places m.g m.l m.more) code in
     by_read ground p built Claim claims a _ m.frame m.w m.w.turns q
     λ v reads. by_get ground p built Claim claims m q ready _ m.w.turns 10 (omega arith) (omega arith) a v reads (fits.operands 0 a (omega arith)) d.0
     λ x means small ready'.
     returned_from ground p built Claim claims next follows m (with_register q 10 x get) ready' (Some v) x (steps_code p.places m.g m.l m.more)
-    (record { small = λ u e. small; means = λ u e. let k : v ≡ u = cc in subst (λ i. Means p.code p.places m.blocks i x) k means }) refl (λ e z. cc) d.1
+    (record { small = λ u e. small; means = λ u e. let k : v ≡ u = cc in subst (λ i. Means p.code p.places m.blocks i x) k means }) refl d.1
