@@ -327,7 +327,7 @@ fragment_cell type r (suc (suc (suc (suc i)))) c e = absurd cc
 
 module _ (code : Code) (p : Places) (blocks : Extents) (bytes : M.Memory) where
   -- cells and the bytes from an address on
-  abbrev AllShow : (a : ℕ) → List Cell → Type 0
+  abbrev pub AllShow : (a : ℕ) → List Cell → Type 0
   AllShow a [] = Unit {0}
   AllShow a (c ∷ more) = Shows code p blocks c (bytes a) × AllShow (a + 1) more
 
@@ -437,7 +437,7 @@ module _ (code : Code) (p : Places) (blocks : Extents) (bytes : M.Memory) where
   module _ (room : Room) (owner : ℕ → Option ℕ) (m : Memory) (flat : Flat code p room blocks owner m bytes)
       (small : (r : Ptr) (x : ℕ) → Points code p blocks r x → x < 2 ^ 32) (fits : (c : ℕ) → bytes c < 2 ^ 8) where
     -- the cells of an access show their bytes
-    shown_cells : (r : Ptr) (b at n w : ℕ) (e : Extent) → Found m r n w b at → slice_get blocks b ≡ Some e
+    pub shown_cells : (r : Ptr) (b at n w : ℕ) (e : Extent) → Found m r n w b at → slice_get blocks b ≡ Some e
         → AllShow (e.at + at) (cells m b at n) × (length (cells m b at n) ≡ n)
     shown_cells r b at n w e f h =
         cells_show (cells_in (block m b).contents) at n (e.at + at) (fits_cells (block m b).contents f.live f.fits)

@@ -210,6 +210,7 @@ module _ (ground : Ground) (p : Program) (m : Moment) (q : Point) (ready : Ready
                   λ i lt. grown.same (a + i) (inl (omega (arith, world.heap_low, h.2))) ∙ h.3 i lt,
                 );
             input_is = world.input_is;
+            input_bytes = world.input_bytes;
             output_is = world.output_is;
             made = (fresh, q.before, get_last m.blocks b fresh (sym world.flat.long), refl, made_more ground p m.blocks (fresh ∷ []) m.w.trace q.before world.made);
           };

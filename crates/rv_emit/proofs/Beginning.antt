@@ -112,6 +112,7 @@ module _ (ground : Ground) (p : Program) (m : Moment) (q : Point) (ready : Ready
               let part = ground.data_end in
               (h.0, h.1, h.2, λ i lt. outside (a + i) (inl (omega (arith, h.2))) (h.3 i lt));
           input_is = world.input_is;
+          input_bytes = world.input_bytes;
           output_is = world.output_is;
           made = made_more ground p m.blocks (fresh ∷ []) m.w.trace q.before world.made;
         };

@@ -142,7 +142,7 @@ module _ (ground : Ground) (p : Program) (built : IsBuilt ground p) (m : Moment)
     pub writes : are_mapped ground.segments writable x n ≡ true
     pub done : (new : M.Memory) → Copied q.memory new x y n → Ready ground p (record m { w = record m.w { memory = after } }) (record q { memory = new })
 
-  none_mapped : (flag a : ℕ) → are_mapped ground.segments flag a 0 ≡ true
+  pub none_mapped : (flag a : ℕ) → are_mapped ground.segments flag a 0 ≡ true
   none_mapped flag a = mapped_each ground.segments flag a 0 (λ i lt. absurd (omega arith))
 
   pub copies : (v u : Value) (x y n : ℕ) (overlap : Bool) (after : Memory) → copy m.w.memory (pointer_of v) (pointer_of u) n overlap ≡ Ok after

@@ -126,6 +126,7 @@ module _ (ground : Ground) (p : Program) (blocks : Extents) (old new : ℕ → O
     runtime = λ a low high. fewer.none a (world.runtime a low high);
     texts = λ a bytes is. let h = world.texts a bytes is in (h.0, h.1, h.2, λ i lt. fewer.none (a + i) (h.3 i lt));
     input_is = world.input_is;
+    input_bytes = world.input_bytes;
     output_is = world.output_is;
     made = world.made;
   }

@@ -123,6 +123,7 @@ module _ (ground : Ground) (p : Program) (m : Moment) (q : Point) (ready : Ready
     runtime = h.runtime;
     texts = h.texts;
     input_is = h.input_is;
+    input_bytes = h.input_bytes;
     output_is = h.output_is;
     made = h.made;
   }
@@ -151,7 +152,7 @@ module _ (ground : Ground) (p : Program) (m : Moment) (q : Point) (ready : Ready
         world = world_in new (world_stays ground p m.blocks m.owner q.memory new m.w q.input q.output q.before
             (keeps_word ground.text q.memory sp back ready.world.keeps (omega arith))
             (keeps_owned m.owner q.memory sp back (λ i lt. unused (sp + i) (omega arith) (omega (arith, covers.0))))
-            (λ a none out. word_elsewhere q.memory sp back a (outside a out (omega (arith, fr.high, covers.0, outer.0)) top)) ready.world);
+            (λ a none out ne. word_elsewhere q.memory sp back a (outside a out (omega (arith, fr.high, covers.0, outer.0)) top)) ready.world);
         frame = framed;
         callers = subst (λ z. Callers ground p m.blocks m.owner new (m.number ∷ m.numbers) (waits ∷ m.callers) z (word_at new sp)) (sym frame_is)
             (subst (Callers ground p m.blocks m.owner new (m.number ∷ m.numbers) (waits ∷ m.callers) m.sp) (sym returns) callers);

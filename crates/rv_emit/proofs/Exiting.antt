@@ -30,7 +30,6 @@ use Rattle.tac_ir.specs.declared.step.Row.{Row}
 use Rattle.tac_ir.specs.declared.step.Step.TheVariants as S
 use Rattle.rv_emit.specs.Maps.{Means}
 use Rattle.rv_emit.specs.Grounds.{Ground}
-use Rattle.rv_emit.specs.Fitting.{RowIsOpen}
 use Rattle.rv_emit.specs.Relation.{Program, Moment, Point, Ready, Here, IsBuilt}
 use Rattle.rv_emit.specs.Claims.{AreClaims, Claims, Follows, state}
 use Rattle.rv_emit.proofs.Calling.{leads_back}
@@ -44,8 +43,8 @@ use Rattle.rv_emit.proofs.Values.{by_tested, get_temporary, moved, with_register
 
 module _ (ground : Ground) (p : Program) (built : IsBuilt ground p) (Claim : Claims) (claims : AreClaims ground p Claim) (next : Next)
     (follows : Follows ground p Claim next) (m : Moment) (q : Point) (ready : Ready ground p m q) where
-  pub exit_works : (t : ℕ) (at : Place) (all : Row) → RowIsOpen m.g all → Works ground p built Claim claims next m q (S.Library t at L.Exit all)
-  exit_works t at' all opened code fits =
+  pub exit_works : (t : ℕ) (at : Place) (all : Row) → Works ground p built Claim claims next m q (S.Library t at L.Exit all)
+  exit_works t at' all code fits =
       by_row ground p built Claim claims at' all.first all.count _ m.frame m.w m.w.turns q by_list
     where
       by_list : (vs : List Value) → HasRow m.frame all.first vs → length vs ≡ all.count
@@ -61,7 +60,7 @@ module _ (ground : Ground) (p : Program) (built : IsBuilt ground p) (Claim : Cla
           λ k is.
           let e = ends (k % 2 ^ 8) m.w in
           by_argument ground p built Claim claims m q ready e m.w.turns 10 all.first v (jump ++ rest) (omega arith) (omega arith) row.0
-          (open_at ground m all opened 0 all.first (omega (arith, long)) (omega arith)) (subst (Here ground p q.pc) (append_assoc one jump rest) code)
+          (open_at ground m all fits.row 0 all.first (omega (arith, long)) (omega arith)) (subst (Here ground p q.pc) (append_assoc one jump rest) code)
           λ x means small ready_x code_x.
           let q1 = with_register q 10 x one in
           let goal = aim ground p built Claim claims e m.w.turns q1 in

@@ -28,7 +28,6 @@ use Rattle.tac_ir.specs.declared.step.Row.{Row}
 use Rattle.tac_ir.specs.declared.step.Step.TheVariants as S
 use Rattle.rv_emit.specs.Maps.{Extent, Means}
 use Rattle.rv_emit.specs.Grounds.{Ground}
-use Rattle.rv_emit.specs.Fitting.{RowIsOpen}
 use Rattle.rv_emit.specs.Relation.{Program, Moment, Point, Ready, Here, IsBuilt}
 use Rattle.rv_emit.specs.Claims.{AreClaims, Claims, Follows, state}
 use Rattle.rv_emit.proofs.Calling.{by_routine, leads_back}
@@ -127,9 +126,9 @@ module _ (ground : Ground) (p : Program) (built : IsBuilt ground p) (Claim : Cla
   pointer_is (word n) r e = absurd cc
   pointer_is (pointer s) r e = (let d : s ≡ r = cc in ap (λ i. pointer i) d)
 
-  pub free_works : (q : Point) → Ready ground p m q → (t : ℕ) (at : Place) (all : Row) → RowIsOpen m.g all
+  pub free_works : (q : Point) → Ready ground p m q → (t : ℕ) (at : Place) (all : Row)
       → Works ground p built Claim claims next m q (S.Library t at L.Free all)
-  free_works q ready t at all opened code fits =
+  free_works q ready t at all code fits =
       by_row ground p built Claim claims at all.first all.count _ m.frame m.w m.w.turns q by_values
     where
       by_values : (vs : List Value) → HasRow m.frame all.first vs → length vs ≡ all.count
@@ -146,7 +145,7 @@ module _ (ground : Ground) (p : Program) (built : IsBuilt ground p) (Claim : Cla
           λ after is'.
           let e = note_freed r (λ u f w. next m.callers m.g m.more (with_temp t (by_name None) f) w) m.frame (record m.w { memory = after }) in
           by_argument ground p built Claim claims m q ready e m.w.turns 10 all.first v (call ++ rest) (omega arith) (omega arith) row.0
-          (open_at ground m all opened 0 all.first (omega (arith, long)) (omega arith)) c1
+          (open_at ground m all fits.row 0 all.first (omega (arith, long)) (omega arith)) c1
           λ x means small ready_x code_x.
           by_pointer (with_register q 10 x one) ready_x t at r x (subst (λ z. Means p.code p.places m.blocks z x) (pointer_is v r is) means)
           (takes ground p built Claim claims next follows m t fits.slot fits.kinds.0) refl code_x after is'

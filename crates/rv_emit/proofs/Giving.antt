@@ -173,7 +173,7 @@ module _ (ground : Ground) (p : Program) (m : Moment) (q : Point) (ready : Ready
             world = world_stays ground p m.blocks m.owner q.memory new m.w q.input q.output q.before
                 (keeps_word ground.text q.memory a x ready.world.keeps (omega (arith, place.low)))
                 (keeps_owned m.owner q.memory a x place.free)
-                (λ c none out. word_elsewhere q.memory a x c (outside c out place.low place.high top)) ready.world;
+                (λ c none out ne. word_elsewhere q.memory a x c (outside c out place.low place.high top)) ready.world;
             frame = framed_given new (this_shows o refl) (λ u s ne e. that_shows u s ne (fr.shows u s e));
             callers = subst (Callers ground p m.blocks m.owner new m.numbers m.callers (m.sp + m.l.size)) (sym back) callers;
             below = ready.below;

@@ -1,5 +1,5 @@
 -- Frames and the world stay where memory changes elsewhere.
-use Rattle.std.proofs.Common.{◌≡◌, ℕ, ◌+◌, ◌%◌, ◌<◌, ◌≤◌, ◌⊎◌, inl, inr, Bool, false, List, [], ◌∷◌, length, Option, Some, None}
+use Rattle.std.proofs.Common.{◌≡◌, ◌≢◌, ℕ, ◌+◌, ◌%◌, ◌<◌, ◌≤◌, ◌⊎◌, inl, inr, Bool, false, List, [], ◌∷◌, length, Option, Some, None}
 use Rattle.std.proofs.Common.{ap, sym, ◌∙◌, subst, arith}
 use Rattle.std.specs.Prelude.{unwrap_or}
 use Rattle.block_memory.specs.Blocks.{Memory}
@@ -15,7 +15,7 @@ use Rattle.rv_steps.proofs.Words.{word_same}
 use Rattle.rv_runtime.specs.Routines.{data_place}
 use Rattle.tac_ir.specs.Code.{RoutineData}
 use Rattle.tac_ir.specs.Running.{Caller}
-use Rattle.rv_code.specs.Code.{is_block}
+use Rattle.rv_code.specs.Code.{byte_at, is_block}
 use Rattle.rv_code.specs.Frames.{block_sizes, frame_size, slot_at, slots}
 use Rattle.rv_code.specs.declared.layout.Layout.{Layout}
 use Rattle.rv_code.specs.declared.layout.Places.{Places}
@@ -47,9 +47,13 @@ KeepsOwned owner old new = (a b : ℕ) → owner a ≡ Some b → new a ≡ old 
 abbrev pub KeepsOther : (owner : ℕ → Option ℕ) → (floor : ℕ) → (old new : M.Memory) → Type 0
 KeepsOther owner floor old new = (a : ℕ) → owner a ≡ None → floor ≤ a → new a ≡ old a
 
--- each byte that nobody owns, but on the stack
+-- the byte that goes to the output, or comes from the input
+abbrev pub byte_place : ℕ
+byte_place = data_place + byte_at
+
+-- each byte that nobody owns, but on the stack, and but that one
 abbrev pub KeepsOutside : (owner : ℕ → Option ℕ) → (old new : M.Memory) → Type 0
-KeepsOutside owner old new = (a : ℕ) → owner a ≡ None → (a < 0x10000000) ⊎ (0x18000000 ≤ a) → new a ≡ old a
+KeepsOutside owner old new = (a : ℕ) → owner a ≡ None → (a < 0x10000000) ⊎ (0x18000000 ≤ a) → a ≢ byte_place → new a ≡ old a
 
 pub flat_stays : (c : Code) (p : Places) (room : Room) (blocks : Extents) (owner : ℕ → Option ℕ) (m : Memory) (old new : M.Memory)
     → Flat c p room blocks owner m old → KeepsOwned owner old new → Flat c p room blocks owner m new
@@ -132,8 +136,8 @@ module _ (ground : Ground) (p : Program) (blocks : Extents) (owner : ℕ → Opt
         → Flat p.code p.places ground.room blocks owner after new → KeepsOutside owner old new → Worldly ground p blocks owner w old input output before
         → Worldly ground p blocks owner (record w { memory = after }) new input output before
     world_moved w after input output before keeps flat outside world =
-        let free = λ (k : ℕ) (lt : k < 256). world.runtime (data_place + k) (omega arith) (omega arith) in
-        let one = λ (k : ℕ) (lt : k < 256). outside (data_place + k) (free k lt) (inl (omega arith)) in
+        let free = λ (k : ℕ) (lt : k < 8). world.runtime (data_place + k) (omega arith) (omega arith) in
+        let one = λ (k : ℕ) (lt : k < 8). outside (data_place + k) (free k lt) (inl (omega arith)) (λ e. omega arith) in
         let begins : word_at new data_place ≡ word_at old data_place = word_same old new data_place (λ k lt. one k (omega arith)) in
         let limit : word_at new (data_place + 4) ≡ word_at old (data_place + 4) =
         word_same old new (data_place + 4) (λ k lt. let e : data_place + (4 + k) ≡ data_place + 4 + k = omega arith in
@@ -143,7 +147,8 @@ module _ (ground : Ground) (p : Program) (blocks : Extents) (owner : ℕ → Opt
           flat = flat;
           objects = world.objects;
           unused = λ a le lt. world.unused a (omega arith) lt;
-          zero = λ a le lt. outside a (world.unused a (omega arith) lt) (inr (omega (arith, world.heap_low))) ∙ world.zero a (omega arith) lt;
+          zero = λ a le lt.
+              outside a (world.unused a (omega arith) lt) (inr (omega (arith, world.heap_low))) (λ e. omega (arith, world.heap_low)) ∙ world.zero a (omega arith) lt;
           heap_low = omega (arith, world.heap_low);
           heap_high = omega (arith, world.heap_high);
           heap_whole = omega (arith, world.heap_whole);
@@ -153,12 +158,13 @@ module _ (ground : Ground) (p : Program) (blocks : Extents) (owner : ℕ → Opt
           texts = λ a bytes is.
               let h = world.texts a bytes is in
               let end = ground.data_end in (
-                record { by = λ k lt. outside (a + k) (h.3 k lt) (inl (omega (arith, h.2))) ∙ (h.0).by k lt },
+                record { by = λ k lt. outside (a + k) (h.3 k lt) (inl (omega (arith, h.2))) (λ e. omega (arith, h.1)) ∙ (h.0).by k lt },
                 h.1,
                 h.2,
                 h.3,
               );
           input_is = world.input_is;
+          input_bytes = world.input_bytes;
           output_is = world.output_is;
           made = world.made;
         }

@@ -26,7 +26,6 @@ pub mod Zeroing
 pub mod Filling
 pub mod Copying
 pub mod Texting
-pub mod Runs
 pub mod Leaving
 pub mod Returning
 pub mod Entering
@@ -40,3 +39,8 @@ pub mod Freeing
 pub mod Ranging
 pub mod Setting
 pub mod Exiting
+pub mod Passing
+pub mod Differing
+pub mod Writing
+pub mod Reading
+pub mod Runs

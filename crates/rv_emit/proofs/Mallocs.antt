@@ -15,7 +15,6 @@ use Rattle.tac_ir.specs.Running.{Next, put_any, with_temp}
 use Rattle.tac_ir.specs.declared.step.Row.{Row}
 use Rattle.tac_ir.specs.declared.step.Step.TheVariants as S
 use Rattle.rv_emit.specs.Grounds.{Ground}
-use Rattle.rv_emit.specs.Fitting.{RowIsOpen}
 use Rattle.rv_emit.specs.Relation.{Program, Moment, Point, Ready, Here, IsBuilt}
 use Rattle.rv_emit.specs.Claims.{AllocationsHaveRoom, AreClaims, Claims, Follows, state}
 use Rattle.rv_emit.proofs.Allocating.{allocated_world}
@@ -26,8 +25,8 @@ use Rattle.rv_emit.proofs.Values.{by_tested, with_register}
 
 module _ (ground : Ground) (p : Program) (built : IsBuilt ground p) (Claim : Claims) (claims : AreClaims ground p Claim) (next : Next)
     (follows : Follows ground p Claim next) (has_room : AllocationsHaveRoom ground p Claim next) (m : Moment) (q : Point) (ready : Ready ground p m q) where
-  pub malloc_works : (t : ℕ) (at : Place) (all : Row) → RowIsOpen m.g all → Works ground p built Claim claims next m q (S.Library t at L.Malloc all)
-  malloc_works t at all opened code fits =
+  pub malloc_works : (t : ℕ) (at : Place) (all : Row) → Works ground p built Claim claims next m q (S.Library t at L.Malloc all)
+  malloc_works t at all code fits =
       by_row ground p built Claim claims at all.first all.count _ m.frame m.w m.w.turns q by_values
     where
       by_values : (vs : List Value) → HasRow m.frame all.first vs → length vs ≡ all.count
@@ -45,14 +44,14 @@ module _ (ground : Ground) (p : Program) (built : IsBuilt ground p) (Claim : Cla
           (let e = next m.callers m.g m.more (with_temp t (by_name (Some (block ground p built Claim claims next follows has_room m))) m.frame)
           (allocated_world ground p m q ready None k false) in
           by_argument ground p built Claim claims m q ready e m.w.turns 10 all.first v ((call ++ give) ++ rest) (omega arith) (omega arith) row.0
-          (open_at ground m all opened 0 all.first (omega (arith, long)) (omega arith)) c1
+          (open_at ground m all fits.row 0 all.first (omega (arith, long)) (omega arith)) c1
           λ x means small ready_x code_x.
           by_malloc ground p built Claim claims next follows has_room m (with_register q 10 x one) ready_x None k false t
           (word_is ground p built Claim claims next follows has_room m v k x is means) (takes ground p built Claim claims next follows m t fits.slot fits.kinds.0)
           (subst (Here ground p (q.pc + 4 * length one)) (append_assoc call give rest) code_x))
 
-  pub calloc_works : (t : ℕ) (at : Place) (all : Row) → RowIsOpen m.g all → Works ground p built Claim claims next m q (S.Library t at L.Calloc all)
-  calloc_works t at all opened code fits =
+  pub calloc_works : (t : ℕ) (at : Place) (all : Row) → Works ground p built Claim claims next m q (S.Library t at L.Calloc all)
+  calloc_works t at all code fits =
       by_row ground p built Claim claims at all.first all.count _ m.frame m.w m.w.turns q by_values
     where
       by_values : (vs : List Value) → HasRow m.frame all.first vs → length vs ≡ all.count
@@ -74,11 +73,11 @@ module _ (ground : Ground) (p : Program) (built : IsBuilt ground p) (Claim : Cla
           (let e = next m.callers m.g m.more (with_temp t (by_name (Some (block ground p built Claim claims next follows has_room m))) m.frame)
           (allocated_world ground p m q ready None (k * j) true) in
           by_argument ground p built Claim claims m q ready e m.w.turns 10 all.first v (two ++ ((call ++ give) ++ rest)) (omega arith) (omega arith) row.0
-          (open_at ground m all opened 0 all.first (omega (arith, long)) (omega arith)) c2
+          (open_at ground m all fits.row 0 all.first (omega (arith, long)) (omega arith)) c2
           λ x means small ready_x code_x.
           let q1 = with_register q 10 x one in
           by_argument ground p built Claim claims m q1 ready_x e m.w.turns 11 (all.first + 1) w ((call ++ give) ++ rest) (omega arith) (omega arith) row.1.0
-          (open_at ground m all opened 1 (all.first + 1) (omega (arith, long)) (omega arith)) code_x
+          (open_at ground m all fits.row 1 (all.first + 1) (omega (arith, long)) (omega arith)) code_x
           λ y means' small' ready_y code_y.
           let ten : x ≡ k = word_is ground p built Claim claims next follows has_room m v k x is means in
           let eleven : y ≡ j = word_is ground p built Claim claims next follows has_room m w j y is' means' in

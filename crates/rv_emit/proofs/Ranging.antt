@@ -23,7 +23,7 @@ use Rattle.tac_ir.specs.declared.step.Row.{Row}
 use Rattle.tac_ir.specs.declared.step.Step.TheVariants as S
 use Rattle.rv_emit.specs.Maps.{Means}
 use Rattle.rv_emit.specs.Grounds.{Ground}
-use Rattle.rv_emit.specs.Fitting.{RowIsOpen}
+use Rattle.rv_emit.specs.Fitting.{RowFitsIfAny}
 use Rattle.rv_emit.specs.Relation.{Program, Moment, Point, Ready, Here, IsBuilt}
 use Rattle.rv_emit.specs.Claims.{AreClaims, Claims, Follows, state}
 use Rattle.rv_emit.proofs.Calling.{by_routine, leads_back}
@@ -72,7 +72,7 @@ module _ (ground : Ground) (p : Program) (built : IsBuilt ground p) (Claim : Cla
   number_is (word n) i y e means = (let d : n ≡ i = cc in sym d ∙ sym means)
   number_is (pointer r) i y e means = absurd cc
 
-  module _ (q : Point) (ready : Ready ground p m q) (t : ℕ) (all : Row) (opened : RowIsOpen m.g all) (takes_it : Takes ground p built Claim claims next follows m t)
+  module _ (q : Point) (ready : Ready ground p m q) (t : ℕ) (all : Row) (opened : RowFitsIfAny m.g (Some all)) (takes_it : Takes ground p built Claim claims next follows m t)
       (code : Here ground p q.pc ((three_code all.first ++ (call_code copy_entry ++ give_code t 10)) ++ steps_code p.places m.g m.l m.more)) where
     by_values : (overlap : Bool) (v u w : Value) (r s : Ptr) (n : ℕ) (after : Memory) → HasRow m.frame all.first (v ∷ u ∷ w ∷ []) → 3 ≡ all.count → as_pointer v ≡ Ok r
         → as_pointer u ≡ Ok s → as_word w ≡ Ok n → copy m.w.memory r s n overlap ≡ Ok after
@@ -93,9 +93,9 @@ module _ (ground : Ground) (p : Program) (built : IsBuilt ground p) (Claim : Cla
         (copies ground p built m q' ready' (pointer r) (pointer s) x y z overlap after is' means_r means_s small_x small_y) takes_it means_r small_x
         (subst (Here ground p q'.pc) (append_assoc call give rest) code')
 
-  pub memcpy_works : (q : Point) → Ready ground p m q → (t : ℕ) (at : Place) (all : Row) → RowIsOpen m.g all
+  pub memcpy_works : (q : Point) → Ready ground p m q → (t : ℕ) (at : Place) (all : Row)
       → Works ground p built Claim claims next m q (S.Library t at L.Memcpy all)
-  memcpy_works q ready t at all opened code fits =
+  memcpy_works q ready t at all code fits =
       by_row ground p built Claim claims at all.first all.count _ m.frame m.w m.w.turns q by_list
     where
       by_list : (vs : List Value) → HasRow m.frame all.first vs → length vs ≡ all.count
@@ -109,12 +109,12 @@ module _ (ground : Ground) (p : Program) (built : IsBuilt ground p) (Claim : Cla
           λ r is_v. by_tested ground p built Claim claims (as_pointer u) at _ m.frame m.w m.w.turns q
           λ s is_u. by_tested ground p built Claim claims (as_word w) at _ m.frame m.w m.w.turns q
           λ n is_w. by_tested ground p built Claim claims (copy m.w.memory r s n false) at _ m.frame m.w m.w.turns q
-          λ after is. by_values q ready t all opened (takes ground p built Claim claims next follows m t fits.slot fits.kinds.0) code false v u w r s n after row long is_v
+          λ after is. by_values q ready t all fits.row (takes ground p built Claim claims next follows m t fits.slot fits.kinds.0) code false v u w r s n after row long is_v
           is_u is_w is
 
-  pub memmove_works : (q : Point) → Ready ground p m q → (t : ℕ) (at : Place) (all : Row) → RowIsOpen m.g all
+  pub memmove_works : (q : Point) → Ready ground p m q → (t : ℕ) (at : Place) (all : Row)
       → Works ground p built Claim claims next m q (S.Library t at L.Memmove all)
-  memmove_works q ready t at all opened code fits =
+  memmove_works q ready t at all code fits =
       by_row ground p built Claim claims at all.first all.count _ m.frame m.w m.w.turns q by_list
     where
       by_list : (vs : List Value) → HasRow m.frame all.first vs → length vs ≡ all.count
@@ -128,5 +128,5 @@ module _ (ground : Ground) (p : Program) (built : IsBuilt ground p) (Claim : Cla
           λ r is_v. by_tested ground p built Claim claims (as_pointer u) at _ m.frame m.w m.w.turns q
           λ s is_u. by_tested ground p built Claim claims (as_word w) at _ m.frame m.w m.w.turns q
           λ n is_w. by_tested ground p built Claim claims (copy m.w.memory r s n true) at _ m.frame m.w m.w.turns q
-          λ after is. by_values q ready t all opened (takes ground p built Claim claims next follows m t fits.slot fits.kinds.0) code true v u w r s n after row long is_v
+          λ after is. by_values q ready t all fits.row (takes ground p built Claim claims next follows m t fits.slot fits.kinds.0) code true v u w r s n after row long is_v
           is_u is_w is

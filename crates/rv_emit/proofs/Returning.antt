@@ -65,6 +65,7 @@ module _ (ground : Ground) (p : Program) (built : IsBuilt ground p) (Claim : Cla
     runtime = h.runtime;
     texts = h.texts;
     input_is = h.input_is;
+    input_bytes = h.input_bytes;
     output_is = h.output_is;
     made = h.made;
   }

@@ -17,10 +17,11 @@ use Rattle.tac_ir.specs.Running.{read_row}
 use Rattle.tac_ir.specs.declared.step.Row.{Row}
 use Rattle.rv_emit.specs.Maps.{Means}
 use Rattle.rv_emit.specs.Grounds.{Ground}
-use Rattle.rv_emit.specs.Fitting.{RowIsOpen}
+use Rattle.rv_emit.specs.Fitting.{RowFitsIfAny}
 use Rattle.rv_emit.specs.Relation.{Program, Moment, Point, Ready, Here, IsBuilt}
 use Rattle.rv_emit.specs.Claims.{AreClaims, Claims, state}
 use Rattle.rv_emit.proofs.Moves.{code_back, code_front}
+use Rattle.rv_emit.proofs.Plain.{open_is}
 use Rattle.rv_emit.proofs.Values.{by_held, get_temporary, with_register}
 
 -- a temporary is read as that value
@@ -31,9 +32,9 @@ abbrev pub HasRow : Frame → (first : ℕ) → List Value → Type 0
 HasRow f first [] = Unit {0}
 HasRow f first (v ∷ vs) = Has f first v × HasRow f (first + 1) vs
 
--- the first, second and third temporary of a row
-pub open_at : (ground : Ground) (m : Moment) (all : Row) → RowIsOpen m.g all → (k t : ℕ) → k < all.count → all.first + k ≡ t → is_block m.g t ≡ false
-open_at ground m all opened k t lt e = ap (is_block m.g) (sym e) ∙ opened k lt
+-- each temporary of a row has its value in its word
+pub open_at : (ground : Ground) (m : Moment) (all : Row) → RowFitsIfAny m.g (Some all) → (k t : ℕ) → k < all.count → all.first + k ≡ t → is_block m.g t ≡ false
+open_at ground m all opened k t lt e = open_is m.g.locals t (opened t (omega arith) (omega arith))
 
 module _ (ground : Ground) (p : Program) (built : IsBuilt ground p) (Claim : Claims) (claims : AreClaims ground p Claim) where
   pub by_row : (at : Place) (first count : ℕ) (rest : List Value → Frame → World → End) (f : Frame) (w : World) (n : ℕ) (q : Point)
@@ -66,10 +67,11 @@ module _ (ground : Ground) (p : Program) (built : IsBuilt ground p) (Claim : Cla
       with_register (with_register (with_register q 10 x (fetch_code 10 2 (slot_at first))) 11 y (fetch_code 11 2 (slot_at (first + 1)))) 12 z
       (fetch_code 12 2 (slot_at (first + 2)))
 
-  pub by_three : (m : Moment) (q : Point) (ready : Ready ground p m q) (e : End) (n : ℕ) (all : Row) (v u w : Value) (tail : List Inst) → RowIsOpen m.g all → 3 ≡ all.count
+  pub by_three : (m : Moment) (q : Point) (ready : Ready ground p m q) (e : End) (n : ℕ) (all : Row) (v u w : Value) (tail : List Inst)
+      → RowFitsIfAny m.g (Some all) → 3 ≡ all.count
       → HasRow m.frame all.first (v ∷ u ∷ w ∷ []) → Here ground p q.pc (three_code all.first ++ tail)
-      → ((x y z : ℕ) → Means p.code p.places m.blocks v x → Means p.code p.places m.blocks u y → Means p.code p.places m.blocks w z → x < 2 ^ 32 → y < 2 ^ 32 → z < 2 ^ 32
-      → Ready ground p m (three_in q all.first x y z) → Here ground p (three_in q all.first x y z).pc tail → Claim e n (state (three_in q all.first x y z)) q.before)
+      → ((x y z : ℕ) → Means p.code p.places m.blocks v x → Means p.code p.places m.blocks u y → Means p.code p.places m.blocks w z → x < 2 ^ 32 → y < 2 ^ 32
+      → z < 2 ^ 32 → Ready ground p m (three_in q all.first x y z) → Here ground p (three_in q all.first x y z).pc tail → Claim e n (state (three_in q all.first x y z)) q.before)
       → Claim e n (state q) q.before
   by_three m q ready e n all v u w tail opened count row code c =
       let one = fetch_code 10 2 (slot_at all.first) in

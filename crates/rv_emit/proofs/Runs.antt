@@ -1,7 +1,10 @@
 -- Runs: what three-address code comes to in some steps, the machine comes to.
-use Rattle.std.proofs.Common.{◌≡◌, ℕ, zero, suc, Bool, true, false, List, [], ◌∷◌, ◌++◌, refl, ap, sym, ◌∙◌, subst, arith}
+use Rattle.std.proofs.Common.{◌≡◌, ℕ, zero, suc, List, [], ◌∷◌, ◌++◌, refl, ap, sym, ◌∙◌, subst, arith}
 use Rattle.lay_base.specs.declared.faults.UndefinedKind.TheVariants as Undefined
+use Rattle.lay_base.specs.declared.place.Place.{Place}
 use Rattle.agreement.specs.Agreement.{shows}
+use Rattle.c_typed.specs.declared.operators.LibraryFunction.{LibraryFunction}
+use Rattle.c_typed.specs.declared.operators.LibraryFunction.TheVariants as L
 use Rattle.block_memory.specs.RunWorlds.Events.{output_of}
 use Rattle.block_memory.specs.RunWorlds.Worlds.{World, End, ends, goes_on, undefined, out_of_room}
 use Rattle.rv_isa.specs.Events.{MachineEvent, events, events_then, step_events}
@@ -12,28 +15,39 @@ use Rattle.rv_steps.specs.States.{IsBackward, later}
 use Rattle.rv_steps.proofs.Reaching.{later_both}
 use Rattle.rv_code.specs.Code.{steps_code}
 use Rattle.tac_ir.specs.Running.{Next, go, no_place}
+use Rattle.tac_ir.specs.declared.step.Row.{Row}
 use Rattle.tac_ir.specs.declared.step.Step.{Step}
 use Rattle.tac_ir.specs.declared.step.Step.TheVariants as S
 use Rattle.rv_emit.specs.Maps.{Extents}
 use Rattle.rv_emit.specs.Grounds.{Ground}
 use Rattle.rv_emit.specs.Fitting.{CodeFits}
 use Rattle.rv_emit.specs.Relation.{Program, Moment, Point, Ready, Here, IsBuilt, IsMade}
-use Rattle.rv_emit.specs.Claims.{AreClaims, CallsHaveRoom, Claim as Claimed, Claims, Comes, Follows, state}
+use Rattle.rv_emit.specs.Claims.{AllocationsHaveRoom, AreClaims, CallsHaveRoom, Claim as Claimed, Claims, Comes, Follows, state}
 use Rattle.rv_emit.proofs.Beginning.{begin_works}
 use Rattle.rv_emit.proofs.Calculating.{binary_works, convert_works, not_works, number_works, pointer_works, unary_works}
 use Rattle.rv_emit.proofs.Calls.{call_through_works, call_works}
 use Rattle.rv_emit.proofs.Comparing.{compare_works}
 use Rattle.rv_emit.proofs.Copying.{copy_record_works}
+use Rattle.rv_emit.proofs.Differing.{memcmp_works}
 use Rattle.rv_emit.proofs.Ending.{end_works, fail_works, forget_works}
+use Rattle.rv_emit.proofs.Exiting.{exit_works, return_held_works}
 use Rattle.rv_emit.proofs.Fields.{element_field_works, field_works, inside_works, update_works}
 use Rattle.rv_emit.proofs.Filling.{zeros_works}
+use Rattle.rv_emit.proofs.Freeing.{free_works}
 use Rattle.rv_emit.proofs.Jumping.{began_works, branch_works, case_works, jump_works, test_works}
 use Rattle.rv_emit.proofs.Loading.{load_works}
+use Rattle.rv_emit.proofs.Mallocs.{calloc_works, malloc_works}
 use Rattle.rv_emit.proofs.Parts.{distance_works, element_works, part_works}
 use Rattle.rv_emit.proofs.Plain.{Works, clear_works, set_works}
 use Rattle.rv_emit.proofs.Pointing.{move_works}
+use Rattle.rv_emit.proofs.Ranging.{memcpy_works, memmove_works}
+use Rattle.rv_emit.proofs.Reading.{getchar_works}
+use Rattle.rv_emit.proofs.Requesting.{allocate_works}
+use Rattle.rv_emit.proofs.Returning.{return_works}
+use Rattle.rv_emit.proofs.Setting.{memset_works}
 use Rattle.rv_emit.proofs.Storing.{store_works}
 use Rattle.rv_emit.proofs.Texting.{text_works}
+use Rattle.rv_emit.proofs.Writing.{putchar_works}
 
 -- ---- what is claimed is such a claim
 
@@ -93,17 +107,21 @@ module _ (ground : Ground) (p : Program) (IsLight : End → Type 0) where
 
 -- ---- steps
 
--- the kinds of steps whose laws are premises here
-abbrev pub is_left : Step → Bool
-is_left (S.Library t at which all) = true
-is_left (S.Allocate t at r size zeroed a) = true
-is_left (S.Return a) = true
-is_left (S.ReturnHeld t) = true
-is_left s = false
-
 module _ (ground : Ground) (p : Program) (built : IsBuilt ground p) (Claim : Claims) (claims : AreClaims ground p Claim) (next : Next)
-    (follows : Follows ground p Claim next) (room : CallsHaveRoom ground p Claim next) (m : Moment) (q : Point) (ready : Ready ground p m q)
-    (others : (s : Step) → is_left s ≡ true → Works ground p built Claim claims next m q s) where
+    (follows : Follows ground p Claim next) (room : CallsHaveRoom ground p Claim next) (has_room : AllocationsHaveRoom ground p Claim next) (m : Moment)
+    (q : Point) (ready : Ready ground p m q) where
+  library_works : (t : ℕ) (at : Place) (which : LibraryFunction) (all : Row) → Works ground p built Claim claims next m q (S.Library t at which all)
+  library_works t at L.Malloc all = malloc_works ground p built Claim claims next follows has_room m q ready t at all
+  library_works t at L.Calloc all = calloc_works ground p built Claim claims next follows has_room m q ready t at all
+  library_works t at L.Free all = free_works ground p built Claim claims next follows m q ready t at all
+  library_works t at L.Memcpy all = memcpy_works ground p built Claim claims next follows m q ready t at all
+  library_works t at L.Memmove all = memmove_works ground p built Claim claims next follows m q ready t at all
+  library_works t at L.Memset all = memset_works ground p built Claim claims next follows m q ready t at all
+  library_works t at L.Memcmp all = memcmp_works ground p built Claim claims next follows m q ready t at all
+  library_works t at L.Putchar all = putchar_works ground p built Claim claims next follows m q ready t at all
+  library_works t at L.Getchar all = getchar_works ground p built Claim claims next follows m q ready t at all
+  library_works t at L.Exit all = exit_works ground p built Claim claims next follows m q ready t at all
+
   pub step_works : (s : Step) → Works ground p built Claim claims next m q s
   step_works (S.Set t a) = set_works ground p built Claim claims next follows m q ready t a
   step_works (S.Clear t) = clear_works ground p built Claim claims next follows m q ready t
@@ -137,18 +155,16 @@ module _ (ground : Ground) (p : Program) (built : IsBuilt ground p) (Claim : Cla
   step_works (S.CopyRecord at size a b) = copy_record_works ground p built m q ready Claim claims next follows at size a b
   step_works (S.Call t at f all) = call_works ground p built Claim claims next follows room m q ready t at f all
   step_works (S.CallThrough t at ty a all) = call_through_works ground p built Claim claims next follows room m q ready t at ty a all
-  step_works (S.Library t at which all) = others (S.Library t at which all) refl
-  step_works (S.Allocate t at r size zeroed a) = others (S.Allocate t at r size zeroed a) refl
+  step_works (S.Library t at which all) = library_works t at which all
+  step_works (S.Allocate t at r size zeroed a) = allocate_works ground p built Claim claims next follows has_room m q ready t at r size zeroed a
   step_works (S.Text x by n) = text_works ground p built m q ready Claim claims next follows x by n
-  step_works (S.Return a) = others (S.Return a) refl
-  step_works (S.ReturnHeld t) = others (S.ReturnHeld t) refl
+  step_works (S.Return a) = return_works ground p built Claim claims next follows m q ready a
+  step_works (S.ReturnHeld t) = return_held_works ground p built Claim claims next follows m q ready t
 
 -- ---- so many steps
 
 module _ (ground : Ground) (p : Program) (built : IsBuilt ground p) (Claim : Claims) (claims : AreClaims ground p Claim)
-    (room : (n : ℕ) → CallsHaveRoom ground p Claim (go p.types p.code n))
-    (others : (next : Next) → Follows ground p Claim next → (m : Moment) (q : Point) → Ready ground p m q → (s : Step) → is_left s ≡ true
-    → Works ground p built Claim claims next m q s) where
+    (room : (n : ℕ) → CallsHaveRoom ground p Claim (go p.types p.code n)) (has_room : (n : ℕ) → AllocationsHaveRoom ground p Claim (go p.types p.code n)) where
   -- wherever the machine stands as a run does, it comes to what the run comes to
   pub runs : (n : ℕ) → Follows ground p Claim (go p.types p.code n)
   runs zero m q ready code = claims.undefined Undefined.Call no_place m.w m.w.turns (state q) q.before
@@ -172,5 +188,5 @@ module _ (ground : Ground) (p : Program) (built : IsBuilt ground p) (Claim : Cla
             below = ready.below;
             runs = ready.runs;
           } in
-          step_works ground p built Claim claims (go p.types p.code n) follows (room n) m' q ready' (others (go p.types p.code n) follows m' q ready') s code
+          step_works ground p built Claim claims (go p.types p.code n) follows (room n) (has_room n) m' q ready' s code
           (fits 0 s (omega arith))

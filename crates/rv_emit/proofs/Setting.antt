@@ -32,7 +32,6 @@ use Rattle.tac_ir.specs.declared.step.Row.{Row}
 use Rattle.tac_ir.specs.declared.step.Step.TheVariants as S
 use Rattle.rv_emit.specs.Maps.{Flat, Means, Shows}
 use Rattle.rv_emit.specs.Grounds.{Ground}
-use Rattle.rv_emit.specs.Fitting.{RowIsOpen}
 use Rattle.rv_emit.specs.Relation.{Program, Moment, Point, Ready, Here, IsBuilt}
 use Rattle.rv_emit.specs.Claims.{AreClaims, Claims, Follows, state}
 use Rattle.rv_emit.proofs.Accesses.{bind_is}
@@ -150,9 +149,9 @@ module _ (ground : Ground) (p : Program) (built : IsBuilt ground p) (Claim : Cla
       10 t (q.f 10) (Some v) (omega arith) (λ d. omega arith) comes.answers (λ i k. small) takes_it.slot takes_it.opened
       (λ i k. let d : v ≡ i = cc in subst (λ z. Means p.code p.places m.blocks z (q.f 10)) d means) code.1.1))
 
-  pub memset_works : (q : Point) → Ready ground p m q → (t : ℕ) (at : Place) (all : Row) → RowIsOpen m.g all
+  pub memset_works : (q : Point) → Ready ground p m q → (t : ℕ) (at : Place) (all : Row)
       → Works ground p built Claim claims next m q (S.Library t at L.Memset all)
-  memset_works q ready t at all opened code fits =
+  memset_works q ready t at all code fits =
       by_row ground p built Claim claims at all.first all.count _ m.frame m.w m.w.turns q by_list
     where
       by_list : (vs : List Value) → HasRow m.frame all.first vs → length vs ≡ all.count
@@ -171,7 +170,7 @@ module _ (ground : Ground) (p : Program) (built : IsBuilt ground p) (Claim : Cla
           λ n is_w. by_tested ground p built Claim claims (fill m.w.memory r (k % 2 ^ 8) n) at _ m.frame m.w m.w.turns q
           λ after is.
           let e = next m.callers m.g m.more (with_temp t (by_name (Some (pointer r))) m.frame) (record m.w { memory = after }) in
-          by_three ground p built Claim claims m q ready e m.w.turns all v u w ((call ++ give) ++ rest) opened long row
+          by_three ground p built Claim claims m q ready e m.w.turns all v u w ((call ++ give) ++ rest) fits.row long row
           (subst (Here ground p q.pc) (append_assoc (three_code all.first) (call ++ give) rest) code)
           λ x y z means_v means_u means_w small_x small_y small_z ready' code'.
           let q' = three_in ground p built Claim claims q all.first x y z in

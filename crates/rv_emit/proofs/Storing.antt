@@ -46,7 +46,7 @@ module _ (ground : Ground) (p : Program) (m : Moment) (q : Point) (ready : Ready
   changed after new keeps flat nobodys =
       let fr = ready.frame in
       let other : (floor : ℕ) → KeepsOther m.owner floor q.memory new = λ floor c none le. nobodys c none in
-      let outside : KeepsOutside m.owner q.memory new = λ c none out. nobodys c none in
+      let outside : KeepsOutside m.owner q.memory new = λ c none out ne. nobodys c none in
       let back = back_stays ground p m.blocks m.owner q.memory new m.number m.g m.l m.frame m.sp (other m.sp) fr in
       let callers = callers_stay ground p m.blocks m.owner q.memory new m.numbers m.callers (m.sp + m.l.size) (word_at q.memory m.sp) (other (m.sp + m.l.size))
       ready.callers in

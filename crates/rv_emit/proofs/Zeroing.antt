@@ -42,8 +42,8 @@ module _ (ground : Ground) (p : Program) (m : Moment) (q : Point) (ready : Ready
         code = ready.code;
         whole = ready.whole;
         fits = ready.fits;
-        world = world_moved ground p m.blocks m.owner q.memory new m.w after q.input q.output q.before keeps flat (λ c none out. others c (outside c out fr.low fr.high top))
-            ready.world;
+        world = world_moved ground p m.blocks m.owner q.memory new m.w after q.input q.output q.before keeps flat
+            (λ c none out ne. others c (outside c out fr.low fr.high top)) ready.world;
         frame = framed_private ground p m.blocks m.owner q.memory new m.number m.g m.l m.frame m.sp (λ c lo hi. others c (inl (omega arith))) fr;
         callers = subst (Callers ground p m.blocks m.owner new m.numbers m.callers (m.sp + m.l.size)) (sym back) callers;
         below = ready.below;

@@ -1,5 +1,5 @@
 -- What code must be so that its instructions do what its steps do: its numbers are words, it speaks of what is there, and blocks of locals have one size.
-use Rattle.std.specs.Prelude.{◌≡◌, ◌≢◌, ℕ, ◌+◌, ◌<◌, ◌≤◌, ◌^◌, true, List, [], ◌∷◌, length, All, Option, Some, None, slice_get, slice_index, get_or, false}
+use Rattle.std.specs.Prelude.{◌≡◌, ◌≢◌, ℕ, ◌+◌, ◌<◌, ◌≤◌, ◌^◌, true, List, [], ◌∷◌, length, All, Option, Some, None, slice_get, slice_index, get_or}
 use Rattle.c_types.specs.Sameness.{same_type}
 use Rattle.c_types.specs.Types.{CType, pointer as pointer_to}
 use Rattle.tac_ir.specs.Code.{Code, RoutineData}
@@ -11,7 +11,6 @@ use Rattle.tac_ir.specs.declared.step.Operand.TheVariants as O
 use Rattle.tac_ir.specs.declared.step.Row.{Row}
 use Rattle.tac_ir.specs.declared.step.Step.{Step}
 use Rattle.tac_ir.specs.declared.step.Step.TheVariants as S
-use Rattle.rv_code.specs.Code.{is_block}
 use Rattle.rv_code.specs.Frames.{block_sizes, kept_by, slots}
 use Rattle.rv_code.specs.declared.layout.Places.{Places}
 use Rattle.rv_emit.specs.Maps.{HasBody}
@@ -43,10 +42,6 @@ operands_of (S.CallThrough t at ty a all) = a ∷ []
 operands_of (S.Allocate t at r size zeroed a) = a ∷ []
 operands_of (S.Return (Some a)) = a ∷ []
 operands_of s = []
-
--- no temporary of a row is a local that lies in a block, so each has its value in its word
-abbrev pub RowIsOpen : RoutineData → Row → Type 0
-RowIsOpen g all = (k : ℕ) → k < all.count → is_block g (all.first + k) ≡ false
 
 -- the temporary is one for which the frame has a word
 abbrev pub HasSlotIfAny : RoutineData → Option ℕ → Type 0

@@ -1,5 +1,5 @@
 -- When the machine stands where a run of three-address code stands.
-use Rattle.std.specs.Prelude.{◌≡◌, ℕ, ◌+◌, ◌%◌, ◌<◌, ◌≤◌, false, true, List, [], ◌∷◌, ◌++◌, length, Option, Some, None, slice_get, slice_index, drop, Contains, pos, ◌≢◌}
+use Rattle.std.specs.Prelude.{◌≡◌, ℕ, ◌+◌, ◌%◌, ◌<◌, ◌≤◌, false, true, List, [], ◌∷◌, ◌++◌, length, Option, Some, None, slice_get, slice_index, drop, All, Contains, pos, ◌≢◌, ◌^◌}
 use Rattle.c_types.specs.Types.{CType}
 use Rattle.block_memory.specs.RunWorlds.Events as E
 use Rattle.block_memory.specs.RunWorlds.Events.{Event, output_of, heap_weight}
@@ -194,6 +194,7 @@ module _ (ground : Ground) (p : Program) where
     pub texts : (a : ℕ) (bytes : List ℕ) → Contains p.texts (a, bytes)
         → Holds memory a bytes × (0x08000100 ≤ a) × (a + length bytes ≤ ground.room.data_end) × ((i : ℕ) → i < length bytes → owner (a + i) ≡ None)
     pub input_is : input ≡ w.input
+    pub input_bytes : All (λ b. b < 2 ^ 8) input
     pub output_is : output ≡ output_of w.trace
     pub made : IsMade blocks w.trace before
 
