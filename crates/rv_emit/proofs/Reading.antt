@@ -1,6 +1,6 @@
 -- Calls of `getchar`: the next byte of the input, or minus one where there is none.
-use Rattle.std.proofs.Common.{◌≡◌, ◌≢◌, ℕ, zero, suc, ◌+◌, ◌-◌, ◌*◌, ◌/◌, ◌%◌, ◌^◌, ◌<◌, ◌≤◌, ◌⊎◌, inl, inr, eqb, List, [], ◌∷◌, ◌++◌, length, min, take, drop}
-use Rattle.std.proofs.Common.{Option, Some, None, pos, negsuc, slice_index, refl, ap, sym, ◌∙◌, subst, arith, append_assoc, eq-eqb, ne_eqb}
+use Rattle.std.proofs.Common.{◌≡◌, ◌≢◌, ℕ, zero, suc, ◌+◌, ◌-◌, ◌*◌, ◌/◌, ◌^◌, ◌<◌, ◌≤◌, inl, inr, eqb, List, [], ◌∷◌, ◌++◌, length, min, take, drop}
+use Rattle.std.proofs.Common.{Some, None, pos, negsuc, slice_index, refl, ap, sym, ◌∙◌, subst, arith, append_assoc, eq-eqb, ne_eqb}
 use Rattle.std.specs.Prelude.{All}
 use Rattle.std.proofs.lemmas.Bool.{cases_lt}
 use Rattle.std.proofs.lemmas.Int.{ints}
@@ -10,12 +10,12 @@ use Rattle.c_typed.specs.declared.operators.LibraryFunction.TheVariants as L
 use Rattle.block_memory.specs.RunWorlds.Events as E
 use Rattle.block_memory.specs.RunWorlds.Library.{next_of}
 use Rattle.block_memory.specs.RunWorlds.LibraryCalls.{library}
-use Rattle.block_memory.specs.RunWorlds.Worlds.{World, End}
+use Rattle.block_memory.specs.RunWorlds.Worlds.{End}
 use Rattle.block_memory.specs.declared.run_worlds.value.Value.{Value}
 use Rattle.block_memory.specs.declared.run_worlds.value.Value.TheVariants.{Word as word}
 use Rattle.c_meaning.specs.declared.frame.Slot.TheVariants.{ByName as by_name}
 use Rattle.rv_isa.specs.declared.instruction.Inst.{Inst}
-use Rattle.rv_isa.specs.declared.instruction.Inst.TheVariants.{Beq, Jal, Lbu}
+use Rattle.rv_isa.specs.declared.instruction.Inst.TheVariants.{Beq, Lbu}
 use Rattle.rv_isa.specs.Arithmetic.{plus}
 use Rattle.rv_isa.specs.Memory as M
 use Rattle.rv_isa.specs.Memory.{with_bytes}
@@ -37,7 +37,7 @@ use Rattle.rv_emit.proofs.Keeping.{byte_place}
 use Rattle.rv_emit.proofs.Moves.{by_addi, by_lui}
 use Rattle.rv_emit.proofs.Noting.{heard}
 use Rattle.rv_emit.proofs.Passing.{byte_passed, byte_readable, byte_writable}
-use Rattle.rv_emit.proofs.Plain.{Takes, Works, aim, takes}
+use Rattle.rv_emit.proofs.Plain.{Works, aim, takes}
 use Rattle.rv_emit.proofs.Rows.{HasRow, by_row}
 use Rattle.rv_emit.proofs.Values.{by_give}
 

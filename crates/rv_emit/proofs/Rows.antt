@@ -1,6 +1,6 @@
 -- The values of a row of temporaries, and each of them in a register.
 use Rattle.std.proofs.Common.{◌≡◌, ℕ, zero, suc, ◌+◌, ◌*◌, ◌^◌, ◌<◌, ◌⊎◌, Bool, false, cond, List, [], ◌∷◌, ◌++◌, length, Some}
-use Rattle.std.proofs.Common.{append_assoc, arith, slice_get, slice_index, refl, ap, sym, ◌∙◌, subst}
+use Rattle.std.proofs.Common.{append_assoc, arith, slice_get, slice_index, refl, ap, subst}
 use Rattle.lay_base.specs.declared.faults.UndefinedKind.TheVariants as K
 use Rattle.lay_base.specs.declared.place.Place.{Place}
 use Rattle.memory_words.specs.declared.cell_words.pointer.Ptr.TheVariants as P

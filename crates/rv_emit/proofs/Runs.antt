@@ -1,5 +1,5 @@
 -- Runs: what three-address code comes to in some steps, the machine comes to.
-use Rattle.std.proofs.Common.{◌≡◌, ℕ, zero, suc, List, [], ◌∷◌, ◌++◌, refl, ap, sym, ◌∙◌, subst, arith}
+use Rattle.std.proofs.Common.{◌≡◌, ℕ, zero, suc, List, [], ◌∷◌, ◌++◌, ap, sym, ◌∙◌, subst, arith}
 use Rattle.lay_base.specs.declared.faults.UndefinedKind.TheVariants as Undefined
 use Rattle.lay_base.specs.declared.place.Place.{Place}
 use Rattle.agreement.specs.Agreement.{shows}

@@ -1,5 +1,5 @@
 -- Calls of `putchar`: the low byte of a number goes to the output.
-use Rattle.std.proofs.Common.{◌≡◌, ℕ, ◌+◌, ◌*◌, ◌/◌, ◌%◌, ◌^◌, ◌<◌, List, [], ◌∷◌, ◌++◌, length, Some, pos, refl, ap, sym, ◌∙◌, subst, arith, append_assoc}
+use Rattle.std.proofs.Common.{◌≡◌, ℕ, ◌+◌, ◌*◌, ◌/◌, ◌%◌, ◌^◌, List, [], ◌∷◌, ◌++◌, length, Some, pos, refl, ap, sym, ◌∙◌, subst, arith, append_assoc}
 use Rattle.lay_base.specs.declared.faults.UndefinedKind.TheVariants as K
 use Rattle.lay_base.specs.declared.place.Place.{Place}
 use Rattle.c_typed.specs.declared.operators.LibraryFunction.TheVariants as L
