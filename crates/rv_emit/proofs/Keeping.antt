@@ -148,7 +148,8 @@ module _ (ground : Ground) (p : Program) (blocks : Extents) (owner : ℕ → Opt
           objects = world.objects;
           unused = λ a le lt. world.unused a (omega arith) lt;
           zero = λ a le lt.
-              outside a (world.unused a (omega arith) lt) (inr (omega (arith, world.heap_low))) (λ e. omega (arith, world.heap_low)) ∙ world.zero a (omega arith) lt;
+              outside a (world.unused a (omega arith) lt) (inr (omega (arith, world.heap_low))) (λ e. omega (arith, world.heap_low))
+              ∙ world.zero a (omega arith) lt;
           heap_low = omega (arith, world.heap_low);
           heap_high = omega (arith, world.heap_high);
           heap_whole = omega (arith, world.heap_whole);

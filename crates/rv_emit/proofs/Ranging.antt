@@ -72,7 +72,8 @@ module _ (ground : Ground) (p : Program) (built : IsBuilt ground p) (Claim : Cla
   number_is (word n) i y e means = (let d : n ≡ i = cc in sym d ∙ sym means)
   number_is (pointer r) i y e means = absurd cc
 
-  module _ (q : Point) (ready : Ready ground p m q) (t : ℕ) (all : Row) (opened : RowFitsIfAny m.g (Some all)) (takes_it : Takes ground p built Claim claims next follows m t)
+  module _ (q : Point) (ready : Ready ground p m q) (t : ℕ) (all : Row) (opened : RowFitsIfAny m.g (Some all))
+      (takes_it : Takes ground p built Claim claims next follows m t)
       (code : Here ground p q.pc ((three_code all.first ++ (call_code copy_entry ++ give_code t 10)) ++ steps_code p.places m.g m.l m.more)) where
     by_values : (overlap : Bool) (v u w : Value) (r s : Ptr) (n : ℕ) (after : Memory) → HasRow m.frame all.first (v ∷ u ∷ w ∷ []) → 3 ≡ all.count → as_pointer v ≡ Ok r
         → as_pointer u ≡ Ok s → as_word w ≡ Ok n → copy m.w.memory r s n overlap ≡ Ok after
@@ -109,8 +110,8 @@ module _ (ground : Ground) (p : Program) (built : IsBuilt ground p) (Claim : Cla
           λ r is_v. by_tested ground p built Claim claims (as_pointer u) at _ m.frame m.w m.w.turns q
           λ s is_u. by_tested ground p built Claim claims (as_word w) at _ m.frame m.w m.w.turns q
           λ n is_w. by_tested ground p built Claim claims (copy m.w.memory r s n false) at _ m.frame m.w m.w.turns q
-          λ after is. by_values q ready t all fits.row (takes ground p built Claim claims next follows m t fits.slot fits.kinds.0) code false v u w r s n after row long is_v
-          is_u is_w is
+          λ after is. by_values q ready t all fits.row (takes ground p built Claim claims next follows m t fits.slot fits.kinds.0) code false v u w r s n after
+          row long is_v is_u is_w is
 
   pub memmove_works : (q : Point) → Ready ground p m q → (t : ℕ) (at : Place) (all : Row)
       → Works ground p built Claim claims next m q (S.Library t at L.Memmove all)
@@ -128,5 +129,5 @@ module _ (ground : Ground) (p : Program) (built : IsBuilt ground p) (Claim : Cla
           λ r is_v. by_tested ground p built Claim claims (as_pointer u) at _ m.frame m.w m.w.turns q
           λ s is_u. by_tested ground p built Claim claims (as_word w) at _ m.frame m.w m.w.turns q
           λ n is_w. by_tested ground p built Claim claims (copy m.w.memory r s n true) at _ m.frame m.w m.w.turns q
-          λ after is. by_values q ready t all fits.row (takes ground p built Claim claims next follows m t fits.slot fits.kinds.0) code true v u w r s n after row long is_v
-          is_u is_w is
+          λ after is. by_values q ready t all fits.row (takes ground p built Claim claims next follows m t fits.slot fits.kinds.0) code true v u w r s n after
+          row long is_v is_u is_w is

@@ -163,8 +163,8 @@ module _ (ground : Ground) (p : Program) (built : IsBuilt ground p) (Claim : Cla
       let new = got_memory (b ∷ []) in
       let q1 : Point = record q { memory = new; input = more } in
       let goal = aim ground p built Claim claims e n q1 in
-      let ready1 = heard ground p m (record q { memory = new }) (got_ready (b ∷ []) (omega arith) (one_fits b small)) (one_moment b more).w more q.output q.before
-      refl refl (others_fit b more all) ready.world.output_is (omega arith) refl ready.world.made in
+      let ready1 = heard ground p m (record q { memory = new }) (got_ready (b ∷ []) (omega arith) (one_fits b small)) (one_moment b more).w more q.output
+      q.before refl refl (others_fit b more all) ready.world.output_is (omega arith) refl ready.world.made in
       let keeps = ready1.world.keeps in
       let f6 = asked 1 in
       let f7 = put f6 5 b in
@@ -175,7 +175,8 @@ module _ (ground : Ground) (p : Program) (built : IsBuilt ground p) (Claim : Cla
       let r : Point = record q1 { f = f7; pc = pc9 } in
       goal.claim.fewer n (at f6 behind_call new more q.output) q.before
       (by_branch_passed ground.segments ground.text goal.Claim goal.claim f6 behind_call new more q.output keeps (omega (arith, ready.code)) n q.before
-      (Beq 10 0 (pos 12)) code.1.1.1.1.1.1.0 10 0 eqb (pos 12) (is_beq 10 0 (pos 12)) (omega arith) (omega arith) (ne_eqb 1 (q.f 0) (λ d. omega (arith, ready.nil)))
+      (Beq 10 0 (pos 12)) code.1.1.1.1.1.1.0 10 0 eqb (pos 12) (is_beq 10 0 (pos 12)) (omega arith) (omega arith)
+      (ne_eqb 1 (q.f 0) (λ d. omega (arith, ready.nil)))
       (by_load_of ground.segments ground.text goal.Claim goal.claim f6 pc6 new more q.output keeps (omega (arith, ready.code)) n q.before (Lbu 5 11 (pos 0))
       code.1.1.1.1.1.1.1.0 [] 5 11 byte_place 1 b (pos 0) (λ memory a. memory a) (is_lbu 5 11 (pos 0)) (omega arith) (omega arith) refl refl
       (byte_readable ground) (ground.quiet_load byte_place 1 (omega arith)) (with_bytes_inside q.memory byte_place (b ∷ []) 0 (omega arith))

@@ -1,5 +1,6 @@
 -- Returns: the frame is left, and the caller goes on, or the run ends.
-use Rattle.std.proofs.Common.{◌≡◌, ℕ, ◌+◌, ◌*◌, ◌/◌, ◌%◌, ◌^◌, ◌<◌, ◌≤◌, inl, inr, List, [], ◌∷◌, ◌++◌, length, Option, Some, None, pos, refl, ap, sym, ◌∙◌, subst, arith, drop}
+use Rattle.std.proofs.Common.{◌≡◌, ℕ, ◌+◌, ◌*◌, ◌/◌, ◌%◌, ◌^◌, ◌<◌, ◌≤◌, inl, inr, List, [], ◌∷◌, ◌++◌, length, Option, Some, None, pos, refl, ap, sym}
+use Rattle.std.proofs.Common.{◌∙◌, subst, arith, drop}
 use Rattle.std.proofs.lemmas.Int.{ints}
 use Rattle.lay_base.specs.declared.faults.UndefinedKind.TheVariants as Undefined
 use Rattle.block_memory.specs.RunWorlds.Doing.{less_deep}

@@ -71,7 +71,8 @@ module _ (ground : Ground) (p : Program) (built : IsBuilt ground p) (Claim : Cla
       → RowFitsIfAny m.g (Some all) → 3 ≡ all.count
       → HasRow m.frame all.first (v ∷ u ∷ w ∷ []) → Here ground p q.pc (three_code all.first ++ tail)
       → ((x y z : ℕ) → Means p.code p.places m.blocks v x → Means p.code p.places m.blocks u y → Means p.code p.places m.blocks w z → x < 2 ^ 32 → y < 2 ^ 32
-      → z < 2 ^ 32 → Ready ground p m (three_in q all.first x y z) → Here ground p (three_in q all.first x y z).pc tail → Claim e n (state (three_in q all.first x y z)) q.before)
+      → z < 2 ^ 32 → Ready ground p m (three_in q all.first x y z) → Here ground p (three_in q all.first x y z).pc tail
+      → Claim e n (state (three_in q all.first x y z)) q.before)
       → Claim e n (state q) q.before
   by_three m q ready e n all v u w tail opened count row code c =
       let one = fetch_code 10 2 (slot_at all.first) in

@@ -93,8 +93,8 @@ module _ (ground : Ground) (p : Program) (built : IsBuilt ground p) (Claim : Cla
       by_lui ground goal q.f q.pc q.memory keeps ready.code 11 (data_place / 2 ^ 12) code.0 (omega arith)
       (goal.claim.fewer n (at f1 pc1 q.memory q.input q.output) q.before
       (by_store_of ground.segments ground.text goal.Claim goal.claim f1 pc1 q.memory q.input q.output keeps (omega (arith, ready.code)) n q.before
-      (Sb 11 10 (pos byte_at)) code.1.0 [] 11 10 byte_place 1 (pos byte_at) with_byte (is_sb 11 10 (pos byte_at)) (omega arith) (omega arith) refl refl (byte_writable ground)
-      (ground.quiet_store byte_place 1 (omega arith))
+      (Sb 11 10 (pos byte_at)) code.1.0 [] 11 10 byte_place 1 (pos byte_at) with_byte (is_sb 11 10 (pos byte_at)) (omega arith) (omega arith) refl refl
+      (byte_writable ground) (ground.quiet_store byte_place 1 (omega arith))
       (by_addi ground goal f1 pc2 new keeps' (omega (arith, ready.code)) 11 11 byte_place (pos byte_at) code.1.1.0 (omega arith) (omega arith) refl
       (by_addi ground goal f2 pc3 new keeps' (omega (arith, ready.code)) 10 0 1 (pos 1) code.1.1.1.0 (omega arith) (omega arith) (from_nil 1)
       (by_addi ground goal f3 pc4 new keeps' (omega (arith, ready.code)) 12 0 1 (pos 1) code.1.1.1.1.0 (omega arith) (omega arith) (from_nil 1)
@@ -104,8 +104,8 @@ module _ (ground : Ground) (p : Program) (built : IsBuilt ground p) (Claim : Cla
       code.1.1.1.1.1.1.0 refl refl refl refl (byte_readable ground)
       (subst (λ (o : List ℕ). Claim e n (at f6 pc7 new q.input o) q.before) (sym out)
       (by_load_of ground.segments ground.text goal'.Claim goal'.claim f6 pc7 new q.input wrote.output keeps' (omega (arith, ready.code)) n q.before
-      (Lbu 5 11 (pos 0)) code.1.1.1.1.1.1.1.0 [] 5 11 byte_place 1 low (pos 0) (λ memory a. memory a) (is_lbu 5 11 (pos 0)) (omega arith) (omega arith) refl refl
-      (byte_readable ground) (ground.quiet_load byte_place 1 (omega arith)) (with_byte_same q.memory byte_place x)
+      (Lbu 5 11 (pos 0)) code.1.1.1.1.1.1.1.0 [] 5 11 byte_place 1 low (pos 0) (λ memory a. memory a) (is_lbu 5 11 (pos 0)) (omega arith) (omega arith) refl
+      refl (byte_readable ground) (ground.quiet_load byte_place 1 (omega arith)) (with_byte_same q.memory byte_place x)
       (c r (elsewhere ground p wrote_moment wrote wrote_ready f7 pc8 refl refl (omega (arith, ready.code)) (omega (arith, ready.whole))) refl
       code.1.1.1.1.1.1.1.1)))))))))))
 
@@ -144,8 +144,8 @@ module _ (ground : Ground) (p : Program) (built : IsBuilt ground p) (Claim : Cla
           let rest = steps_code p.places m.g m.l m.more in
           by_tested ground p built Claim claims (as_word v) at _ m.frame m.w m.w.turns q
           λ k is.
-          by_argument ground p built Claim claims m q ready (put_end t (k % 2 ^ 8)) m.w.turns 10 all.first v ((write_code ++ give) ++ rest) (omega arith) (omega arith) row.0
-          (open_at ground m all fits.row 0 all.first (omega (arith, long)) (omega arith))
+          by_argument ground p built Claim claims m q ready (put_end t (k % 2 ^ 8)) m.w.turns 10 all.first v ((write_code ++ give) ++ rest) (omega arith)
+          (omega arith) row.0 (open_at ground m all fits.row 0 all.first (omega (arith, long)) (omega arith))
           (subst (Here ground p q.pc) (append_assoc one (write_code ++ give) rest) code)
           λ x means small ready_x code_x.
           by_number (with_register q 10 x one) ready_x k (number_is ground p built Claim claims next follows m v k x is means)

@@ -1,5 +1,6 @@
 -- When the machine stands where a run of three-address code stands.
-use Rattle.std.specs.Prelude.{◌≡◌, ℕ, ◌+◌, ◌%◌, ◌<◌, ◌≤◌, false, true, List, [], ◌∷◌, ◌++◌, length, Option, Some, None, slice_get, slice_index, drop, All, Contains, pos, ◌≢◌, ◌^◌}
+use Rattle.std.specs.Prelude.{◌≡◌, ℕ, ◌+◌, ◌%◌, ◌<◌, ◌≤◌, false, true, List, [], ◌∷◌, ◌++◌, length, Option, Some, None, slice_get, slice_index, drop, All}
+use Rattle.std.specs.Prelude.{Contains, pos, ◌≢◌, ◌^◌}
 use Rattle.c_types.specs.Types.{CType}
 use Rattle.block_memory.specs.RunWorlds.Events as E
 use Rattle.block_memory.specs.RunWorlds.Events.{Event, output_of, heap_weight}
