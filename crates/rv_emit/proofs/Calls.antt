@@ -1,5 +1,5 @@
 -- Calls: the row's address, the way to the callee, its entry, and its parameters.
-use Rattle.std.proofs.Common.{◌≡◌, ◌≢◌, ℕ, zero, suc, ◌+◌, ◌-◌, ◌*◌, ◌/◌, ◌%◌, ◌^◌, ◌<◌, ◌≤◌, ◌⊎◌, inl, inr, Bool, true, false, cond, not, ltb, ◌&&◌, List, [], ◌∷◌, ◌++◌, length, map, Option, Some, None, pos}
+use Rattle.std.proofs.Common.{◌≡◌, ◌≢◌, ℕ, zero, suc, ◌+◌, ◌-◌, ◌*◌, ◌/◌, ◌%◌, ◌^◌, ◌<◌, ◌≤◌, inl, inr, Bool, true, false, cond, not, ltb, ◌&&◌, List, [], ◌∷◌, ◌++◌, length, map, Option, Some, None, pos}
 use Rattle.std.proofs.Common.{slice_get, slice_index, refl, ap, sym, ◌∙◌, subst, arith, append_assoc, le-ltb}
 use Rattle.std.proofs.lemmas.Int.{ints}
 use Rattle.std.proofs.lemmas.Bool.{cond_both}
@@ -28,7 +28,7 @@ use Rattle.rv_code.specs.Frames.{slot_at, slots}
 use Rattle.rv_code.specs.Words.{address_code, call_code, keep_code, number_code}
 use Rattle.rv_code.specs.declared.layout.Layout.{Layout}
 use Rattle.tac_ir.specs.Code.{RoutineData}
-use Rattle.tac_ir.specs.Running.{Caller, Next, body, calls, calls_through, calls_typed, empty_slot, type_in, read_row, receive}
+use Rattle.tac_ir.specs.Running.{Caller, Next, body, calls, calls_through, calls_typed, empty_slot, type_in, receive}
 use Rattle.tac_ir.specs.declared.step.Operand.{Operand}
 use Rattle.tac_ir.specs.declared.step.Row.{Row}
 use Rattle.tac_ir.specs.declared.step.Step.{Step}
@@ -45,52 +45,37 @@ use Rattle.rv_emit.proofs.Lists.{get_below}
 use Rattle.rv_emit.proofs.Moves.{by_address, by_call, by_keep, by_number, code_back, code_front, parts}
 use Rattle.rv_emit.proofs.Plain.{Works, aim, open_is}
 use Rattle.rv_emit.proofs.Receiving.{Passed, by_parameters, passed_stays}
-use Rattle.rv_emit.proofs.Values.{Reads, by_get, by_held, by_read, with_register}
+use Rattle.rv_emit.proofs.Rows.{Has, HasRow, by_row}
+use Rattle.rv_emit.proofs.Values.{Reads, by_get, by_read, with_register}
 
 -- ---- a row that is read
 
-abbrev pub IsRead : Frame → (t : ℕ) → Value → Type 0
-IsRead f t v = (slice_get f t ≡ Some (by_name (Some v))) ⊎ ((b : ℕ) × (slice_get f t ≡ Some (in_block (Some b))) × (v ≡ pointer (P.Block b 0)))
-
-abbrev pub RowReads : Frame → (t : ℕ) → List Value → Type 0
-RowReads f t [] = Unit {0}
-RowReads f t (v ∷ vs) = IsRead f t v × RowReads f (t + 1) vs
-
-read_below : (f : Frame) (t : ℕ) (v : Value) → IsRead f t v → t < length f
+read_below : (f : Frame) (t : ℕ) (v : Value) → Has f t v → t < length f
 read_below f t v (inl e) = get_below f t (by_name (Some v)) e
 read_below f t v (inr h) = get_below f t (in_block (Some h.0)) h.1
 
 -- the last one of them has a slot too
-row_end : (f : Frame) (t : ℕ) (vs : List Value) → RowReads f t vs → 0 < length vs → t + length vs ≤ length f
+row_end : (f : Frame) (t : ℕ) (vs : List Value) → HasRow f t vs → 0 < length vs → t + length vs ≤ length f
 row_end f t [] h lt = absurd (omega arith)
 row_end f t (v ∷ []) h lt = (let k = read_below f t v h.0 in omega (arith, k))
 row_end f t (v ∷ u ∷ vs) h lt = (let k = row_end f (t + 1) (u ∷ vs) h.1 (omega arith) in omega (arith, k))
 
 module _ (ground : Ground) (p : Program) (built : IsBuilt ground p) (Claim : Claims) (claims : AreClaims ground p Claim) where
-  pub by_row : (place : Place) (t count : ℕ) (rest : List Value → Frame → World → End) (f : Frame) (w : World) (n : ℕ) (q : Point)
-      → ((vs : List Value) → length vs ≡ count → RowReads f t vs → Claim (rest vs f w) n (state q) q.before)
-      → Claim (read_row place t count rest f w) n (state q) q.before
-  by_row place t zero rest f w n q c = c [] refl tt
-  by_row place t (suc k) rest f w n q c =
-      by_held ground p built Claim claims (slice_get f t) K.Call place _ f w n q
-      λ v reads. by_row place (t + 1) k _ f w n q
-      λ vs long more. c (v ∷ vs) (ap suc long) (reads, more)
-
   -- ---- from the callee's entry on
 
   module _ (next : Next) (follows : Follows ground p Claim next) (room : CallsHaveRoom ground p Claim next) where
     -- the words of the row stand for what was read
     row_passed : (m : Moment) (q : Point) → Ready ground p m q → (first count : ℕ) → RowFitsIfAny m.g (Some (record { first = first; count = count }))
-        → (vs : List Value) (x : ℕ) → x + length vs ≤ count → RowReads m.frame (first + x) vs → Passed p m.blocks q.memory (m.sp + slot_at first) x vs
+        → (vs : List Value) (x : ℕ) → x + length vs ≤ count → HasRow m.frame (first + x) vs → Passed p m.blocks q.memory (m.sp + slot_at first) x vs
     row_passed m q ready first count fits [] x le h = tt
     row_passed m q ready first count fits (v ∷ vs) x le h =
         let z : first + x + 1 ≡ first + (x + 1) = omega arith in
         let k : m.sp + slot_at (first + x) ≡ m.sp + slot_at first + 4 * x = omega arith in (
           subst (λ a. Means p.code p.places m.blocks v (word_at q.memory a)) k (by_slot h.0),
-          row_passed m q ready first count fits vs (x + 1) (omega arith) (subst (λ t. RowReads m.frame t vs) z h.1),
+          row_passed m q ready first count fits vs (x + 1) (omega arith) (subst (λ t. HasRow m.frame t vs) z h.1),
         )
       where
-        by_slot : IsRead m.frame (first + x) v → Means p.code p.places m.blocks v (word_at q.memory (m.sp + slot_at (first + x)))
+        by_slot : Has m.frame (first + x) v → Means p.code p.places m.blocks v (word_at q.memory (m.sp + slot_at (first + x)))
         by_slot (inl e) = (ready.frame.shows (first + x) (by_name (Some v)) e).1
         by_slot (inr b) =
             absurd (let is = (ready.frame.shows (first + x) (in_block (Some b.0)) b.1).0 in
@@ -189,7 +174,7 @@ module _ (ground : Ground) (p : Program) (built : IsBuilt ground p) (Claim : Cla
 
     module _ (m : Moment) (q : Point) (ready : Ready ground p m q) (place : Place) (k t : ℕ) (all : Row) (g : RoutineData) (vs : List Value)
         (is : slice_get p.code.routines k ≡ Some g) (slot : t < slots m.g) (opened : is_block m.g t ≡ false) (few : length g.parameters ≤ length vs)
-        (long : length vs ≡ all.count) (row_fits : RowFitsIfAny m.g (Some all)) (reads : RowReads m.frame all.first vs)
+        (long : length vs ≡ all.count) (row_fits : RowFitsIfAny m.g (Some all)) (reads : HasRow m.frame all.first vs)
         -- some instructions lead there
         (arrives : (e : End) (n : ℕ) → IsPlace (slice_index p.places.entries k) → g.code ≢ []
         → ((back : ℕ) (r : Point) → Arrived m k t all.first back r → Claim e n (state r) r.before) → Claim e n (state q) q.before) where
@@ -220,7 +205,7 @@ module _ (ground : Ground) (p : Program) (built : IsBuilt ground p) (Claim : Cla
           (by_entry m r h.ready k g l laid t back n row place vs h.entry h.one h.place h.code slot opened few (omega (arith, fr.whole)) (omega arith)
           (λ lt. h.row ∙ (let z = below lt in omega (arith, z, top))) below
           (row_passed m r h.ready first all.count row_fits vs 0 (omega (arith, long))
-          (let z : first ≡ first + 0 = omega arith in subst (λ j. RowReads m.frame j vs) z reads)) w w_is
+          (let z : first ≡ first + 0 = omega arith in subst (λ j. HasRow m.frame j vs) z reads)) w w_is
           (subst (λ z. Here ground p r.pc (entry_code l g.parameters ++ steps_code p.places g l z)) (sym e)
           (subst (λ z. Here ground p r.pc (code_if_any p.places g l z)) e
           (subst (λ pc. Here ground p pc (code_if_any p.places g l g.code)) (sym h.entry) laid.stands))) enough)))
@@ -263,10 +248,10 @@ module _ (ground : Ground) (p : Program) (built : IsBuilt ground p) (Claim : Cla
 
       pub call_works : (t : ℕ) (place : Place) (k : ℕ) (all : Row) → Works ground p built Claim claims next m q (S.Call t place k all)
       call_works t place k all code fits =
-          by_row place all.first all.count _ m.frame m.w m.w.turns q
-          λ vs long reads. by_callee vs long reads (slice_get p.code.routines k) refl
+          by_row ground p built Claim claims place all.first all.count _ m.frame m.w m.w.turns q
+          λ vs reads long. by_callee vs long reads (slice_get p.code.routines k) refl
         where
-          by_callee : (vs : List Value) → length vs ≡ all.count → RowReads m.frame all.first vs → (o : Option RoutineData) → slice_get p.code.routines k ≡ o
+          by_callee : (vs : List Value) → length vs ≡ all.count → HasRow m.frame all.first vs → (o : Option RoutineData) → slice_get p.code.routines k ≡ o
               → Claim (calls p.types p.code next place k (record { to = t; routine = m.g; more = m.more; frame = m.frame } ∷ m.callers) o vs m.frame m.w) m.w.turns
               (state q) q.before
           by_callee vs long reads None is = claims.undefined K.Call place m.w m.w.turns (state q) q.before
@@ -305,10 +290,10 @@ module _ (ground : Ground) (p : Program) (built : IsBuilt ground p) (Claim : Cla
         → Works ground p built Claim claims next m q (S.CallThrough t place ty a all)
     call_through_works m q ready t place ty a all code fits =
         by_read ground p built Claim claims a _ m.frame m.w m.w.turns q
-        λ v reads_v. by_row place all.first all.count _ m.frame m.w m.w.turns q
-        λ vs long reads. by_value v reads_v vs long reads
+        λ v reads_v. by_row ground p built Claim claims place all.first all.count _ m.frame m.w m.w.turns q
+        λ vs reads long. by_value v reads_v vs long reads
       where
-        call_known : (k : ℕ) → Reads m.frame a (pointer (P.Function k)) → (vs : List Value) → length vs ≡ all.count → RowReads m.frame all.first vs → (g : RoutineData)
+        call_known : (k : ℕ) → Reads m.frame a (pointer (P.Function k)) → (vs : List Value) → length vs ≡ all.count → HasRow m.frame all.first vs → (g : RoutineData)
             → slice_get p.code.routines k ≡ Some g → same_type (type_in p.types ty) (pointer_to (type_in p.types g.ty)) ≡ true
             → Claim (calls p.types p.code next place k (record { to = t; routine = m.g; more = m.more; frame = m.frame } ∷ m.callers) (Some g) vs m.frame m.w) m.w.turns
             (state q) q.before
@@ -346,14 +331,14 @@ module _ (ground : Ground) (p : Program) (built : IsBuilt ground p) (Claim : Cla
               row = ten;
             })))
 
-        by_type : (k : ℕ) → Reads m.frame a (pointer (P.Function k)) → (vs : List Value) → length vs ≡ all.count → RowReads m.frame all.first vs → (g : RoutineData)
+        by_type : (k : ℕ) → Reads m.frame a (pointer (P.Function k)) → (vs : List Value) → length vs ≡ all.count → HasRow m.frame all.first vs → (g : RoutineData)
             → slice_get p.code.routines k ≡ Some g → (same : Bool) → same_type (type_in p.types ty) (pointer_to (type_in p.types g.ty)) ≡ same
             → Claim (cond same (calls p.types p.code next place k (record { to = t; routine = m.g; more = m.more; frame = m.frame } ∷ m.callers) (Some g) vs m.frame m.w)
             (undefined K.Call place m.w)) m.w.turns (state q) q.before
         by_type k reads_v vs long reads g is true same = call_known k reads_v vs long reads g is same
         by_type k reads_v vs long reads g is false same = claims.undefined K.Call place m.w m.w.turns (state q) q.before
 
-        by_function : (k : ℕ) → Reads m.frame a (pointer (P.Function k)) → (vs : List Value) → length vs ≡ all.count → RowReads m.frame all.first vs
+        by_function : (k : ℕ) → Reads m.frame a (pointer (P.Function k)) → (vs : List Value) → length vs ≡ all.count → HasRow m.frame all.first vs
             → (o : Option RoutineData) → slice_get p.code.routines k ≡ o
             → Claim (calls_typed p.types p.code next place (type_in p.types ty) k (record { to = t; routine = m.g; more = m.more; frame = m.frame } ∷ m.callers) o vs
             m.frame m.w) m.w.turns (state q) q.before
@@ -361,7 +346,7 @@ module _ (ground : Ground) (p : Program) (built : IsBuilt ground p) (Claim : Cla
         by_function k reads_v vs long reads (Some g) is =
             by_type k reads_v vs long reads g is (same_type (type_in p.types ty) (pointer_to (type_in p.types g.ty))) refl
 
-        by_value : (v : Value) → Reads m.frame a v → (vs : List Value) → length vs ≡ all.count → RowReads m.frame all.first vs
+        by_value : (v : Value) → Reads m.frame a v → (vs : List Value) → length vs ≡ all.count → HasRow m.frame all.first vs
             → Claim (calls_through p.types p.code next place (type_in p.types ty) (pointer_of v)
             (record { to = t; routine = m.g; more = m.more; frame = m.frame } ∷ m.callers) vs m.frame m.w) m.w.turns (state q) q.before
         by_value (word n) reads_v vs long reads = claims.undefined K.Call place m.w m.w.turns (state q) q.before
