@@ -98,7 +98,7 @@ module _ (ground : Ground) (p : Program) (blocks : Extents) (owner : ℕ → Opt
       let top = ground.stack_end in
       world_stays ground p blocks owner memory new first input output before (keeps_word ground.text memory sp p.end_place world.keeps (omega arith))
       (keeps_owned owner memory sp p.end_place (λ i lt. unused_here (sp + i) (omega arith) (omega (arith, covers.0))))
-      (λ a none out. word_elsewhere memory sp p.end_place a (outside a out (omega (arith, covers.0)) top)) world
+      (λ a none out other. word_elsewhere memory sp p.end_place a (outside a out (omega (arith, covers.0)) top)) world
     where
       outside : (a : ℕ) → (a < 0x10000000) ⊎ (0x18000000 ≤ a) → sp + 4 ≤ ground.room.stack_end → ground.room.stack_end ≤ 0x18000000 → (a < sp) ⊎ (sp + 4 ≤ a)
       outside a (inl lt) high top = inl (omega arith)
@@ -119,6 +119,7 @@ module _ (ground : Ground) (p : Program) (blocks : Extents) (owner : ℕ → Opt
     runtime = h.runtime;
     texts = h.texts;
     input_is = h.input_is;
+    input_bytes = h.input_bytes;
     output_is = h.output_is;
     made = h.made;
   })

@@ -1,7 +1,7 @@
 -- A run from its start: what is claimed of the call of `main` is claimed of the machine before its first step.
 use Rattle.std.proofs.Common.{◌≡◌, ◌≢◌, ℕ, zero, suc, ◌+◌, ◌/◌, ◌^◌, ◌≤◌, false, List, [], ◌∷◌, ◌++◌, length, map, Option, Some, None}
 use Rattle.std.proofs.Common.{slice_get, slice_index, refl, ap, sym, ◌∙◌, subst, arith}
-use Rattle.std.specs.Prelude.{Contains}
+use Rattle.std.specs.Prelude.{All, Contains, ◌<◌}
 use Rattle.lay_base.specs.declared.faults.UndefinedKind.TheVariants as K
 use Rattle.block_memory.specs.RunWorlds.Events.{entered}
 use Rattle.block_memory.specs.RunWorlds.Worlds.{World, goes_on}
@@ -34,11 +34,10 @@ use Rattle.compiled_files.specs.Sound.{IsSound}
 use Rattle.compiled_files.proofs.FirstCall.{by_entry}
 use Rattle.compiled_files.proofs.FirstSteps.{by_start}
 use Rattle.compiled_files.proofs.FirstWorld.{blocks_of, first_world, no_owner, owner_of}
-use Rattle.compiled_files.proofs.Globals.{TextsAreBytes}
 
 module _ (p : ProgramData) (t : Tac) (heap stack : ℕ) (fits : Fits p t) (sound : IsSound p (code_of t))
-    -- texts are bytes
-    (bytes : TextsAreBytes (code_of t).routines)
+    -- memory holds bytes
+    (small : (a : ℕ) → M.initial_memory (image_of p (code_of t) heap stack).segments a < 2 ^ 8)
     -- the ground is that of the image
     (ground : Ground) (text_is : (a : ℕ) → ground.text a ≡ M.initial_memory (image_of p (code_of t) heap stack).segments a)
     (room_is : ground.room ≡ room_of p (code_of t) heap stack)
@@ -71,8 +70,8 @@ module _ (p : ProgramData) (t : Tac) (heap stack : ℕ) (fits : Fits p t) (sound
   begins =
       subst (λ top. Here ground (placed p c) code_address (Lui 2 (top / 2 ^ 12) ∷ call_code main)) (sym stack_end) (stands.0, (stands.1.0, (stands.1.1.0, tt)))
 
-  world : (input : List ℕ) (turns : ℕ) → Worldly ground (placed p c) (blocks_of p) (owner_of p) (start p input turns false) memory input [] []
-  world input turns = first_world p t heap stack fits sound bytes ground text_is room_is texts_hold input turns false
+  world : (input : List ℕ) → All (λ b. b < 2 ^ 8) input → (turns : ℕ) → Worldly ground (placed p c) (blocks_of p) (owner_of p) (start p input turns false) memory input [] []
+  world input bytes turns = first_world p t heap stack fits sound small ground text_is room_is texts_hold input bytes turns false
 
   module _ (Claim : Claims) (claims : AreClaims ground (placed p c) Claim) (next : Next) (follows : Follows ground (placed p c) Claim next)
       -- where no turn is left the run goes on, wherever the machine stands
@@ -82,10 +81,10 @@ module _ (p : ProgramData) (t : Tac) (heap stack : ℕ) (fits : Fits p t) (sound
       → (n : ℕ) (s : State) (before : List MachineEvent)
       → (stack_place + l.size ≤ ground.room.stack_end → Claim (body p.types c next no_place [] g g.code [] w) n s before)
       → Claim (body p.types c next no_place [] g g.code [] w) n s before) where
-    pub first : (input : List ℕ) (turns : ℕ)
+    pub first : (input : List ℕ) → All (λ b. b < 2 ^ 8) input → (turns : ℕ)
         → Claim (calls p.types c next no_place c.main [] (slice_get c.routines c.main) [] [] (start p input turns false)) turns
         (Machine.start (image_of p c heap stack) input) []
-    first input turns = by_routine turns (slice_get c.routines c.main) refl
+    first input bytes turns = by_routine turns (slice_get c.routines c.main) refl
       where
         s : State
         s = Machine.start (image_of p c heap stack) input
@@ -98,12 +97,12 @@ module _ (p : ProgramData) (t : Tac) (heap stack : ℕ) (fits : Fits p t) (sound
             let none : g.parameters ≡ [] = sound.main g is in
             let end = next [] g g.code (map empty_slot g.locals) (main_entered input n) in
             let goal : Goal ground = record { Claim = Claim end; claim = claims.backward end; n = n + 1; input = input; output = []; before = [] } in
-            let w = world input (suc n) in
+            let w = world input bytes (suc n) in
             let low = ground.data_end in
             by_start ground goal memory w.keeps (λ r. 0) ground.room.stack_end main refl begins (omega (arith, stack_end)) laid.entry.whole
             (omega (arith, laid.entry.small)) laid.entry.code
             λ f nil one top. by_entry ground (placed p c) (blocks_of p) (owner_of p) (start p input (suc n) false) memory input [] [] w
-            (λ a le lt. no_owner p t heap stack fits sound bytes ground text_is room_is texts_hold a (omega arith))
+            (λ a le lt. no_owner p t heap stack fits sound small ground text_is room_is texts_hold a (omega arith))
             (omega (arith, stack_end)) refl c.main g l laid enough built.end Claim claims next follows none n f nil one top code
 
         by_code : (n : ℕ) (g : RoutineData) → slice_get c.routines c.main ≡ Some g → (code : List Step) → g.code ≡ code

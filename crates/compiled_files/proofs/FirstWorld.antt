@@ -1,7 +1,7 @@
 -- The world before the first step: the objects are as they are initialized, and the heap and the stack are not used.
 use Rattle.std.proofs.Common.{◌≡◌, ℕ, zero, suc, ◌+◌, ◌-◌, ◌%◌, ◌<◌, ◌≤◌, inl, Bool, true, false, List, [], ◌∷◌, length, map, Option, Some, None}
 use Rattle.std.proofs.Common.{slice_get, slice_index, unwrap_or, refl, ap, ◌∙◌, sym, subst, arith}
-use Rattle.std.specs.Prelude.{Contains}
+use Rattle.std.specs.Prelude.{All, Contains, ◌^◌}
 use Rattle.std.proofs.lemmas.List.{length-map}
 use Rattle.c_typed.specs.Programs.{ProgramData}
 use Rattle.c_typed.specs.declared.program.Object.{Object}
@@ -31,9 +31,9 @@ use Rattle.compiled_files.specs.Sound.{IsSound}
 use Rattle.rv_image.proofs.Fitting.{one_for_each}
 use Rattle.rv_image.proofs.Lengths.{data_length}
 use Rattle.rv_emit.proofs.Lists.{get_below, place_within}
-use Rattle.compiled_files.proofs.Globals.{TextsAreBytes, ends_inside, globals_agree, globals_own, globals_small, index_of_map, own_length, placed_later}
+use Rattle.compiled_files.proofs.Globals.{ends_inside, globals_agree, globals_own, index_of_map, own_length, placed_later}
 use Rattle.compiled_files.proofs.Globals.{texts_behind}
-use Rattle.compiled_files.proofs.Loaded.{all_small, data_is, globals, zero_behind}
+use Rattle.compiled_files.proofs.Loaded.{data_is, globals, zero_behind}
 use Rattle.compiled_files.proofs.Objects.{AreObjects, object_cells, object_long}
 use Rattle.compiled_files.proofs.Owners.{extent_of, extents_from, extents_long, of_extent, owner_among, owner_behind, owner_below, owner_within}
 
@@ -66,7 +66,7 @@ place_of p n o e =
     let h = place_within objects_at (object_sizes p) n (omega (arith, get_below p.objects n o e, length-map p.objects (object_size p))) refl in
     (h.0, omega (arith, h.1, index_of_map (object_size p) p.objects n o e), h.2)
 
-module _ (p : ProgramData) (t : Tac) (heap stack : ℕ) (fits : Fits p t) (sound : IsSound p (code_of t)) (bytes : TextsAreBytes (code_of t).routines)
+module _ (p : ProgramData) (t : Tac) (heap stack : ℕ) (fits : Fits p t) (sound : IsSound p (code_of t)) (small : (a : ℕ) → M.initial_memory (image_of p (code_of t) heap stack).segments a < 2 ^ 8)
     (ground : Ground) (text_is : (a : ℕ) → ground.text a ≡ M.initial_memory (image_of p (code_of t) heap stack).segments a)
     (room_is : ground.room ≡ room_of p (code_of t) heap stack)
     (texts_hold : (at : ℕ) (bytes : List ℕ) → Contains (placed p (code_of t)).texts (at, bytes)
@@ -192,13 +192,13 @@ module _ (p : ProgramData) (t : Tac) (heap stack : ℕ) (fits : Fits p t) (sound
       (ground.read data_place 8 (inl (omega arith, omega (arith, ground.data_low))))
       (ground.write data_place 4 (inl (omega arith, omega (arith, ground.data_low)))) own_holds
 
-  pub first_world : (input : List ℕ) (turns : ℕ) (limited : Bool) → Worldly ground (placed p c) blocks owner (start p input turns limited) memory input [] []
-  first_world input turns limited =
+  pub first_world : (input : List ℕ) → All (λ b. b < 2 ^ 8) input → (turns : ℕ) (limited : Bool) → Worldly ground (placed p c) blocks owner (start p input turns limited) memory input [] []
+  first_world input bytes turns limited =
       let top = ground.data_end in
       record {
         keeps = record {
           same = λ a lt. sym (text_is a);
-          bytes = all_small p t heap stack fits (globals_small p c (end_of_room heap_address heap) q refl blocks known sound.objects bytes);
+          bytes = small;
         };
         flat = flat;
         objects = λ n lt.
@@ -218,6 +218,7 @@ module _ (p : ProgramData) (t : Tac) (heap stack : ℕ) (fits : Fits p t) (sound
             let le = placed_later (texts_at p) c.routines a bytes is in
             (h.0, h.1, omega (arith, h.2, data_end), λ i lt. owner_behind 0 objects_at (object_sizes p) (a + i) (omega arith));
         input_is = refl;
+        input_bytes = bytes;
         output_is = refl;
         made = refl;
       }

@@ -22,8 +22,8 @@ use Rattle.rv_isa.specs.Events.{heap_start}
 use Rattle.rv_runtime.specs.Bytes.{data_bytes, zeros}
 use Rattle.rv_runtime.specs.Routines.{data_place}
 use Rattle.rv_emit.proofs.Lists.{end_above, get_below, place_within}
-use Rattle.compiled_files.proofs.Objects.{Agree, AreObjects, object_cells, object_long, objects_agree, objects_outside, objects_small, word_small}
-use Rattle.compiled_files.proofs.Putting.{AreBytes, put_outside, put_small}
+use Rattle.compiled_files.proofs.Objects.{Agree, AreObjects, object_cells, object_long, objects_agree, objects_outside}
+use Rattle.compiled_files.proofs.Putting.{put_outside}
 
 -- ---- texts
 
@@ -42,12 +42,6 @@ all_texts_outside at (g ∷ more) all j le lt =
     let end = end_above at (map length g.texts) in
     all_texts_outside (end_from at (map length g.texts)) more (put_texts at g.texts all) j (omega (arith, end)) (omega (arith, end))
     ∙ texts_outside at g.texts all j le lt
-
-texts_small : (at : ℕ) (texts : List (List ℕ)) (all : List ℕ) → All AreBytes texts → AreBytes all → AreBytes (put_texts at texts all)
-texts_small at [] all new old = old
-texts_small at (text ∷ more) all new old =
-    texts_small (at + whole_words (length text)) more (put_bytes (at - data_place) text all) (All-tail AreBytes text more new)
-    (put_small (at - data_place) text all (All-head AreBytes text more new) old)
 
 -- each of them lies behind where the first one begins
 abbrev Later : (low : ℕ) → (ℕ × List ℕ) → Type 0
@@ -69,35 +63,15 @@ all_texts_later low at (g ∷ more) le =
 pub placed_later : (at : ℕ) (gs : List RoutineData) (a : ℕ) (bytes : List ℕ) → Contains (placed_texts at gs) (a, bytes) → at ≤ a
 placed_later at gs a bytes is = All-contains (Later at) (placed_texts at gs) (a, bytes) (all_texts_later at at gs (omega arith)) is
 
--- texts are lists of bytes
-abbrev pub TextsAreBytes : List RoutineData → Type 0
-TextsAreBytes gs = All (λ g. All AreBytes g.texts) gs
-
-all_texts_small : (at : ℕ) (gs : List RoutineData) (all : List ℕ) → TextsAreBytes gs → AreBytes all → AreBytes (put_all_texts at gs all)
-all_texts_small at [] all new old = old
-all_texts_small at (g ∷ more) all new old =
-    all_texts_small (end_from at (map length g.texts)) more (put_texts at g.texts all) (All-tail (λ (z : RoutineData). All AreBytes z.texts) g more new)
-    (texts_small at g.texts all (All-head (λ (z : RoutineData). All AreBytes z.texts) g more new) old)
-
 -- ---- the runtime's own
 
 zeros_length : (n : ℕ) → length (zeros n) ≡ n
 unfolding zeros
 zeros_length n = length-replicate n 0
 
-zeros_small : (n : ℕ) → AreBytes (zeros n)
-unfolding zeros
-zeros_small n = All-replicate (λ b. b < 2 ^ 8) n 0 (omega arith)
-
 pub own_length : (heap_end : ℕ) → length (data_bytes heap_end) ≡ 256
 unfolding data_bytes zeros
 own_length heap_end = ap (λ n. 4 + (4 + n)) (zeros_length 248)
-
-own_small : (heap_end : ℕ) → AreBytes (data_bytes heap_end)
-unfolding data_bytes
-own_small heap_end =
-    All-append (λ b. b < 2 ^ 8) (to_le_bytes w32 heap_start) (to_le_bytes w32 heap_end ++ zeros 248) (word_small heap_start)
-    (All-append (λ b. b < 2 ^ 8) (to_le_bytes w32 heap_end) (zeros 248) (word_small heap_end) (zeros_small 248))
 
 replicate_zero : (n i : ℕ) → slice_index (replicate n 0) i ≡ 0
 replicate_zero zero i = refl
@@ -129,10 +103,6 @@ module _ (p : ProgramData) (c : Code) (heap_end : ℕ) where
   empty_long =
       length-append own rest ∙ ap (λ n. n + length rest) (own_length heap_end) ∙ ap (λ n. 256 + n) (length-replicate (data_size p c - 256) 0)
 
-  empty_small : AreBytes (empty_data p c heap_end)
-  empty_small =
-      All-append (λ b. b < 2 ^ 8) own rest (own_small heap_end) (All-replicate (λ b. b < 2 ^ 8) (data_size p c - 256) 0 (omega arith))
-
   pub ends_inside : texts_at p ≤ data_place + data_size p c
   ends_inside = (let h = all_ends_behind (texts_at p) c.routines in omega (arith, h))
 
@@ -152,11 +122,6 @@ module _ (p : ProgramData) (c : Code) (heap_end : ℕ) where
         ∙ ap (λ places. slice_index (with_objects places) j) is
         ∙ objects_outside p c q blocks known p.objects objects_at (empty_data p c heap_end) j fits (omega arith) (omega arith)
         ∙ empty_own j lt
-
-    pub globals_small : TextsAreBytes c.routines → AreBytes globals
-    globals_small new =
-        all_texts_small (texts_at p) c.routines (with_objects q.objects) new
-        (objects_small p c q blocks known p.objects q.objects (empty_data p c heap_end) empty_small)
 
     -- each cell of an object shows its byte
     pub globals_agree : (n : ℕ) (o : Object) → slice_get p.objects n ≡ Some o

@@ -10,6 +10,7 @@ pub mod Putting
 pub mod Objects
 pub mod Globals
 pub mod Loaded
+pub mod Bytes
 pub mod Owners
 pub mod FirstWorld
 pub mod FirstSteps

@@ -18,7 +18,6 @@ use Rattle.rv_code.specs.Programs.{places_of, program_code}
 use Rattle.elf32.specs.Written.{heap_address, stack_address}
 use Rattle.rv_image.specs.Data.{data_of_program, object_places, texts_at}
 use Rattle.rv_image.specs.Images.{Fits, end_of_room, full_segment, image_of, room_segment, text_of_program}
-use Rattle.compiled_files.proofs.Objects.{word_small}
 use Rattle.compiled_files.proofs.Putting.{AreBytes}
 
 -- ---- segments, one after the other
@@ -49,48 +48,6 @@ memory_small (s ∷ more) a h =
     cond_both (is_in s a) (slice_index s.bytes (a - s.at)) (initial_memory more a) (λ z. z < 2 ^ 8)
     (λ e. small_at s.bytes (a - s.at) (All-head Bytes s more h))
     (λ e. memory_small more a (All-tail Bytes s more h))
-
--- ---- the bytes of the text
-
-abbrev Small : ℕ → Type 0
-Small b = b < 2 ^ 8
-
-words_small : (words : List ℕ) → AreBytes (bytes_of words)
-words_small [] = All-nil Small
-words_small (w ∷ words) = All-append Small (to_le_bytes w32 w) (bytes_of words) (word_small w) (words_small words)
-
-zeros_small : (n : ℕ) → AreBytes (zeros n)
-unfolding zeros
-zeros_small n = All-replicate Small n 0 (omega arith)
-
-open_small : (words : List ℕ) → AreBytes (open_page words)
-unfolding open_page
-open_small words = All-append Small (bytes_of words) (zeros (512 - 4 * length words)) (words_small words) (zeros_small (512 - 4 * length words))
-
-page_small : (words : List ℕ) → AreBytes (page words)
-unfolding page
-page_small words =
-    let last = bytes_of (encoding return_code ∷ []) in
-    let gap = zeros (508 - 4 * length words) in
-    All-append Small (bytes_of words) (gap ++ last) (words_small words)
-    (All-append Small gap last (zeros_small (508 - 4 * length words)) (words_small (encoding return_code ∷ [])))
-
-joined : (a b : List ℕ) → AreBytes a → AreBytes b → AreBytes (a ++ b)
-joined a b = All-append Small a b
-
-runtime_small : AreBytes runtime_bytes
-runtime_small =
-    joined _ _ (open_small (words_of start_code))
-    (joined _ _ (open_small (words_of exit_code))
-    (joined _ _ (page_small (words_of malloc_code))
-    (joined _ _ (page_small (words_of calloc_code))
-    (joined _ _ (page_small (words_of free_code))
-    (joined _ _ (page_small (words_of copy_code)) (joined _ _ (page_small (words_of fill_code)) (page_small (words_of compare_code))))))))
-
-pub text_small : (p : ProgramData) (c : Code) (stack : ℕ) → AreBytes (text_of_program p c stack)
-text_small p c stack =
-    let words = words_of (program_code c (end_of_room stack_address stack) (object_places p) (texts_at p)) in
-    joined runtime_bytes (bytes_of words) runtime_small (words_small words)
 
 -- ---- the image
 
@@ -127,10 +84,3 @@ module _ (p : ProgramData) (t : Tac) (heap stack : ℕ) (fits : Fits p t) where
   pub zero_behind : (a : ℕ) → data_place + length globals ≤ a → initial_memory segments a ≡ 0
   zero_behind a le =
       behind_text a (omega arith) ∙ past_segment (full_segment data_place 6 globals) rooms a (inr le) ∙ rooms_zero a
-
-  pub all_small : AreBytes globals → (a : ℕ) → initial_memory segments a < 2 ^ 8
-  all_small h a = memory_small segments a
-      (All-cons Bytes (full_segment 0x10000 5 text) (full_segment data_place 6 globals ∷ rooms) (text_small p (code_of t) stack)
-      (All-cons Bytes (full_segment data_place 6 globals) rooms h
-      (All-cons Bytes (room_segment stack_address stack) (room_segment heap_address heap ∷ []) (All-nil Small)
-      (All-cons Bytes (room_segment heap_address heap) [] (All-nil Small) (All-nil Bytes)))))

@@ -30,21 +30,7 @@ use Rattle.compiled_files.specs.Sound.{InitialFits, ValueFits, value_width}
 use Rattle.rv_runtime.specs.Routines.{data_place}
 use Rattle.rv_emit.proofs.Cells.{Outside}
 use Rattle.rv_emit.proofs.Lists.{end_above, get_below}
-use Rattle.compiled_files.proofs.Putting.{AreBytes, over_cases, put_inside, put_keeps, put_outside, put_small, replicate_is}
-
--- ---- the bytes of a number
-
-pub word_small : (n : ℕ) → AreBytes (to_le_bytes w32 n)
-word_small n =
-    let Small : ℕ → Type 0 = λ b. b < 2 ^ 8 in
-    All-cons Small (byte_at 0 n) (byte_at 1 n ∷ byte_at 2 n ∷ byte_at 3 n ∷ []) (omega arith)
-    (All-cons Small (byte_at 1 n) (byte_at 2 n ∷ byte_at 3 n ∷ []) (omega arith)
-    (All-cons Small (byte_at 2 n) (byte_at 3 n ∷ []) (omega arith) (All-cons Small (byte_at 3 n) [] (omega arith) (All-nil Small))))
-
-pub value_small : (q : Places) (v : InitialValue) → AreBytes (value_bytes q v)
-value_small q (V.Number kind n) = All-take (λ b. b < 2 ^ 8) (width kind) (to_le_bytes w32 n) (word_small n)
-value_small q (V.Address type n at) = word_small ((slice_index q.objects n + at) % 2 ^ 32)
-value_small q (V.Function type f) = word_small (slice_index q.entries f)
+use Rattle.compiled_files.proofs.Putting.{over_cases, put_inside, put_keeps, put_outside, replicate_is}
 
 -- ---- values
 
@@ -230,12 +216,6 @@ module _ (p : ProgramData) (c : Code) (q : Places) (blocks : Extents) (known : A
   values_keep (i ∷ more) all at =
       values_keep more (put_bytes (at + i.offset) (value_bytes q i.value) all) at ∙ put_keeps (at + i.offset) (value_bytes q i.value) all
 
-  values_small : (values : List Initial) (all : List ℕ) (at : ℕ) → AreBytes all → AreBytes (put_values q at values all)
-  values_small [] all at old = old
-  values_small (i ∷ more) all at old =
-      values_small more (put_bytes (at + i.offset) (value_bytes q i.value) all) at
-      (put_small (at + i.offset) (value_bytes q i.value) all (value_small q i.value) old)
-
   -- ---- an object
 
   abbrev pub ObjectFits : Object → Type 0
@@ -270,9 +250,6 @@ module _ (p : ProgramData) (c : Code) (q : Places) (blocks : Extents) (known : A
   object_keeps : (o : Object) (all : List ℕ) (at : ℕ) → length (put_initial q at o.initial all) ≡ length all
   object_keeps o all at = ap length (initial_is at o.initial all) ∙ values_keep (none_or o.initial) all at
 
-  object_small : (o : Object) (all : List ℕ) (at : ℕ) → AreBytes all → AreBytes (put_initial q at o.initial all)
-  object_small o all at old = subst AreBytes (sym (initial_is at o.initial all)) (values_small (none_or o.initial) all at old)
-
   -- ---- objects one behind the other
 
   abbrev pub sizes : List Object → List ℕ
@@ -289,12 +266,6 @@ module _ (p : ProgramData) (c : Code) (q : Places) (blocks : Extents) (known : A
       let next = at + whole_words (object_size p o) in
       objects_outside more next (put_initial q (at - data_place) o.initial all) j (λ n z e. fits (suc n) z e) (omega arith) (omega arith)
       ∙ object_outside o all (at - data_place) j (fits 0 o refl) (inl lt)
-
-  pub objects_small : (objects : List Object) (places : List ℕ) (all : List ℕ) → AreBytes all → AreBytes (put_objects q objects places all)
-  objects_small [] places all old = old
-  objects_small (o ∷ more) [] all old = old
-  objects_small (o ∷ more) (at ∷ places) all old =
-      objects_small more places (put_initial q (at - data_place) o.initial all) (object_small o all (at - data_place) old)
 
   pub objects_keep : (objects : List Object) (places : List ℕ) (all : List ℕ) → length (put_objects q objects places all) ≡ length all
   objects_keep [] places all = refl

@@ -43,12 +43,6 @@ put_inside at (byte ∷ more) all (suc j) lt le =
 abbrev pub AreBytes : List ℕ → Type 0
 AreBytes all = All (λ b. b < 2 ^ 8) all
 
-pub put_small : (at : ℕ) (bytes all : List ℕ) → AreBytes bytes → AreBytes all → AreBytes (put_bytes at bytes all)
-put_small at [] all new old = old
-put_small at (byte ∷ more) all new old =
-    put_small (at + 1) more (slice_set all at byte) (All-tail (λ b. b < 2 ^ 8) byte more new)
-    (All-set (λ b. b < 2 ^ 8) all at byte (All-head (λ b. b < 2 ^ 8) byte more new) old)
-
 -- ---- elements of lists that are written over
 
 module _ {A : Type 0} where

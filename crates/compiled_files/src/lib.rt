@@ -5,6 +5,4 @@
 //! does by its meaning (`Agrees`), and with the heap just what the program does (`Real`).
 #![tactic(auto)]
 
-mod compiled;
 
-pub use compiled::compiled;
