@@ -5,6 +5,7 @@ ghost use Rattle.c_typed.specs.Programs.{data_of, program_data};
 ghost use Rattle.c_meaning.specs.Run.{main_place, numbers};
 ghost use Rattle.tac_ir.specs.Code.{code_of};
 ghost use Rattle.tac_ir.specs.Code as Code;
+ghost use Rattle.source_values.specs.Rows.{TypesAreSmall};
 ghost use Rattle.lower_tac.specs.Drafts.{out_in};
 ghost use Rattle.lower_tac.specs.Statements.{code_if_any, lowered, parameter_of, routine_of, routines_from};
 
@@ -184,9 +185,11 @@ fn main_place(p: &Typed) -> Place
 /// Three-address code of a program. `NoMemory` comes for want of memory; where the size of a type passes what `Types::of` takes; and
 /// where a function has 2^31 parameters or locals, or something in it has no number of 32 bits.
 pub fn lower(alloc: Global, p: &Typed) -> Result<Tac, NoMemory>
-    ensures { IfOk result (λ t. code_of t ≡ lowered (program_data p.now)) }
+    ensures code { IfOk result (λ t. code_of t ≡ lowered (program_data p.now)) }
+    ensures small { IfOk result (λ t. TypesAreSmall (program_data p.now)) }
 {
     let types = Types::of(alloc, p)?;
+    types.are_small();
     let routines = routines(alloc, &types, p.functions.as_slice())?;
     Ok(Tac {
         routines,

@@ -30,6 +30,10 @@ pub record IsSmall (row : TypeRow) : Type 0 where
   pub size : row.size ≤ greatest_size
   pub element : row.element ≤ greatest_size
 
+-- so it is for each type of a program
+abbrev pub TypesAreSmall : ProgramData → Type 0
+TypesAreSmall p = (type : ℕ) → IsSmall (row_of p type)
+
 -- ---- the table
 
 -- the rows of the first types
@@ -39,7 +43,7 @@ rows_of p (suc n) = rows_of p n ++ row_of p n ∷ []
 
 pub record AreRows (p : ProgramData) (rows : List TypeRow) : Type 0 where
   pub all : rows ≡ rows_of p (length p.types)
-  pub small : (type : ℕ) → IsSmall (row_of p type)
+  pub small : TypesAreSmall p
 
 -- ---- a look-up of a type by its number, which is `void` past the end
 

@@ -7,7 +7,7 @@ ghost use Rattle.c_types.specs.Sameness.{same_type};
 ghost use Rattle.c_types.specs.Types.{pointer as pointer_to};
 ghost use Rattle.c_typed.specs.Programs.{program_data};
 ghost use Rattle.c_meaning.specs.Program.{type_at};
-ghost use Rattle.source_values.specs.Rows.{IsSmall, row_of};
+ghost use Rattle.source_values.specs.Rows.{IsSmall, TypesAreSmall, row_of};
 
 use crate::offsets::offset;
 use crate::pointed::points_to;
@@ -58,6 +58,11 @@ impl<'a> Types<'a> {
     {
         self.typed
     }
+
+    /// No value of a type, nor what it points to or its elements are, passes the greatest size.
+    pub fn are_small(&self)
+        ensures { TypesAreSmall (program_data self.now) }
+    {}
 
     /// What is kept of the type with that number, which is `void` past the end.
     #[tactic(auto, using(crate::proofs::ByNumber::found_is, crate::proofs::ByNumber::found_small, crate::proofs::ByNumber::missing_is))]
