@@ -173,8 +173,9 @@ module _ (ground : Ground) (p : Program) (built : IsBuilt ground p) (Claim : Cla
         cond_both (ltb (slot_at t) 2048) _ _ (λ (is : List Inst). Here ground p pc (is ++ tail) → pc + 4 ≤ code_end) (λ e h. h.0.below) (λ e h. h.0.below) code
 
     module _ (m : Moment) (q : Point) (ready : Ready ground p m q) (place : Place) (k t : ℕ) (all : Row) (g : RoutineData) (vs : List Value)
-        (is : slice_get p.code.routines k ≡ Some g) (slot : t < slots m.g) (opened : is_block m.g t ≡ false) (few : length g.parameters ≤ length vs)
-        (long : length vs ≡ all.count) (row_fits : RowFitsIfAny m.g (Some all)) (reads : HasRow m.frame all.first vs)
+        (is : slice_get p.code.routines k ≡ Some g) (slot : t < slots m.g) (opened : is_block m.g t ≡ false)
+        (few : g.code ≢ [] → length g.parameters ≤ length vs) (long : length vs ≡ all.count) (row_fits : RowFitsIfAny m.g (Some all))
+        (reads : HasRow m.frame all.first vs)
         -- some instructions lead there
         (arrives : (e : End) (n : ℕ) → IsPlace (slice_index p.places.entries k) → g.code ≢ []
         → ((back : ℕ) (r : Point) → Arrived m k t all.first back r → Claim e n (state r) r.before) → Claim e n (state q) q.before) where
@@ -202,7 +203,7 @@ module _ (ground : Ground) (p : Program) (built : IsBuilt ground p) (Claim : Cla
           (room m r h.ready k g l laid place (one ∷ m.callers) vs w (ap (λ (z : World). z.trace) w_is) (n + 1) (state r) r.before
           λ enough. subst (λ z. Claim (body p.types p.code next place (one ∷ m.callers) g z vs w) (n + 1) (state r) r.before) (sym e)
           (subst (λ z. Claim (receive place 0 g.parameters vs (λ u f. next (one ∷ m.callers) g z f) (map empty_slot g.locals) w) (n + 1) (state r) r.before) e
-          (by_entry m r h.ready k g l laid t back n row place vs h.entry h.one h.place h.code slot opened few (omega (arith, fr.whole)) (omega arith)
+          (by_entry m r h.ready k g l laid t back n row place vs h.entry h.one h.place h.code slot opened (few some) (omega (arith, fr.whole)) (omega arith)
           (λ lt. h.row ∙ (let z = below lt in omega (arith, z, top))) below
           (row_passed m r h.ready first all.count row_fits vs 0 (omega (arith, long))
           (let z : first ≡ first + 0 = omega arith in subst (λ j. HasRow m.frame j vs) z reads)) w w_is
@@ -256,7 +257,7 @@ module _ (ground : Ground) (p : Program) (built : IsBuilt ground p) (Claim : Cla
               (state q) q.before
           by_callee vs long reads None is = claims.undefined K.Call place m.w m.w.turns (state q) q.before
           by_callee vs long reads (Some g) is =
-              let few : length g.parameters ≤ length vs = (let h = fits.arguments g is in omega (arith, long)) in
+              let few : g.code ≢ [] → length g.parameters ≤ length vs = λ some. (let h = fits.arguments g is some in omega (arith, long)) in
               called m q ready place k t all g vs is fits.slot (open_is m.g.locals t fits.kinds.0) few long fits.row reads
               λ e n entry some c.
               let give = give_code t 10 in
@@ -298,7 +299,7 @@ module _ (ground : Ground) (p : Program) (built : IsBuilt ground p) (Claim : Cla
             → Claim (calls p.types p.code next place k (record { to = t; routine = m.g; more = m.more; frame = m.frame } ∷ m.callers) (Some g) vs m.frame m.w) m.w.turns
             (state q) q.before
         call_known k reads_v vs long reads g is same =
-            let few : length g.parameters ≤ length vs = (let h = fits.arguments k g is same in omega (arith, long)) in
+            let few : g.code ≢ [] → length g.parameters ≤ length vs = λ some. (let h = fits.arguments k g is some same in omega (arith, long)) in
             called m q ready place k t all g vs is fits.slot (open_is m.g.locals t fits.kinds.0) few long fits.row reads
             λ e n entry some c.
             let give = give_code t 10 in

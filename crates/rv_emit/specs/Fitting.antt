@@ -82,10 +82,11 @@ module _ (c : Code) (p : Places) where
   OperandFits (O.Temp kind t at) = Unit {0}
 
 module _ (types : List CType) (c : Code) (p : Places) where
-  -- a function gets as many arguments as it has parameters, by whatever pointer of its type
+  -- a function that has code gets as many arguments as it has parameters, by whatever pointer of its type. One that is only declared has no parameters,
+  -- though its type has some
   abbrev pub ArgumentsFit : Step → Type 0
-  ArgumentsFit (S.Call t at f all) = (g : RoutineData) → slice_get c.routines f ≡ Some g → length g.parameters ≡ all.count
-  ArgumentsFit (S.CallThrough t at ty a all) = (f : ℕ) (g : RoutineData) → slice_get c.routines f ≡ Some g
+  ArgumentsFit (S.Call t at f all) = (g : RoutineData) → slice_get c.routines f ≡ Some g → g.code ≢ [] → length g.parameters ≡ all.count
+  ArgumentsFit (S.CallThrough t at ty a all) = (f : ℕ) (g : RoutineData) → slice_get c.routines f ≡ Some g → g.code ≢ []
       → same_type (type_in types ty) (pointer_to (type_in types g.ty)) ≡ true → length g.parameters ≡ all.count
   ArgumentsFit s = Unit {0}
 

@@ -62,7 +62,10 @@ impl<'a> Types<'a> {
     /// No value of a type, nor what it points to or its elements are, passes the greatest size.
     pub fn are_small(&self)
         ensures { TypesAreSmall (program_data self.now) }
-    {}
+    {
+        // What holds of each table is known where a field is read.
+        let _typed = self.typed;
+    }
 
     /// What is kept of the type with that number, which is `void` past the end.
     #[tactic(auto, using(crate::proofs::ByNumber::found_is, crate::proofs::ByNumber::found_small, crate::proofs::ByNumber::missing_is))]

@@ -31,11 +31,11 @@ use Rattle.compiled_files.specs.Sound.{IsSound}
 use Rattle.rv_image.proofs.Fitting.{one_for_each}
 use Rattle.rv_image.proofs.Lengths.{data_length}
 use Rattle.rv_emit.proofs.Lists.{get_below, place_within}
-use Rattle.compiled_files.proofs.Globals.{ends_inside, globals_agree, globals_own, index_of_map, own_length, placed_later}
-use Rattle.compiled_files.proofs.Globals.{texts_behind}
-use Rattle.compiled_files.proofs.Loaded.{data_is, globals, zero_behind}
-use Rattle.compiled_files.proofs.Objects.{AreObjects, object_cells, object_long}
-use Rattle.compiled_files.proofs.Owners.{extent_of, extents_from, extents_long, of_extent, owner_among, owner_behind, owner_below, owner_within}
+use Rattle.compiled_files.proofs.Starting.Globals.{ends_inside, globals_agree, globals_own, index_of_map, own_length, placed_later}
+use Rattle.compiled_files.proofs.Starting.Globals.{texts_behind}
+use Rattle.compiled_files.proofs.Starting.Loaded.{data_is, globals, zero_behind}
+use Rattle.compiled_files.proofs.Starting.Objects.{AreObjects, object_cells, object_long}
+use Rattle.compiled_files.proofs.Starting.Owners.{extent_of, extents_from, extents_long, of_extent, owner_among, owner_behind, owner_below, owner_within}
 
 -- the objects of a program, and who owns what before the first step
 abbrev pub blocks_of : ProgramData → Extents

@@ -30,7 +30,7 @@ use Rattle.compiled_files.specs.Sound.{InitialFits, ValueFits, value_width}
 use Rattle.rv_runtime.specs.Routines.{data_place}
 use Rattle.rv_emit.proofs.Cells.{Outside}
 use Rattle.rv_emit.proofs.Lists.{end_above, get_below}
-use Rattle.compiled_files.proofs.Putting.{over_cases, put_inside, put_keeps, put_outside, replicate_is}
+use Rattle.compiled_files.proofs.Starting.Putting.{over_cases, put_inside, put_keeps, put_outside, replicate_is}
 
 -- ---- values
 

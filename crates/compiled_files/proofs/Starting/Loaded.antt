@@ -18,7 +18,7 @@ use Rattle.rv_code.specs.Programs.{places_of, program_code}
 use Rattle.elf32.specs.Written.{heap_address, stack_address}
 use Rattle.rv_image.specs.Data.{data_of_program, object_places, texts_at}
 use Rattle.rv_image.specs.Images.{Fits, end_of_room, full_segment, image_of, room_segment, text_of_program}
-use Rattle.compiled_files.proofs.Putting.{AreBytes}
+use Rattle.compiled_files.proofs.Starting.Putting.{AreBytes}
 
 -- ---- segments, one after the other
 

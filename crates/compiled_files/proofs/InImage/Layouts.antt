@@ -13,7 +13,7 @@ use Rattle.rv_code.specs.declared.layout.Layout.{Layout}
 use Rattle.rv_code.specs.declared.layout.Places.{Places}
 use Rattle.rv_emit.specs.Grounds.{Ground}
 use Rattle.rv_emit.proofs.Moves.{code_back}
-use Rattle.compiled_files.proofs.Lengths.{StepsAreAsLong, FunctionsAreAsLong}
+use Rattle.code_bounds.specs.CompiledLaws.{StepsAreAsLong, FunctionsAreAsLong}
 
 -- ---- sums of words, which a layout has from the last step on
 

@@ -11,7 +11,7 @@ use Rattle.rv_code.specs.declared.layout.Places.{Places}
 use Rattle.rv_emit.specs.Grounds.{Ground}
 use Rattle.rv_emit.proofs.Moves.{code_front, code_back}
 use Rattle.compiled_files.specs.Placing.{with_places, placed_texts}
-use Rattle.compiled_files.proofs.Lengths.{FunctionsAreAsLong}
+use Rattle.code_bounds.specs.CompiledLaws.{FunctionsAreAsLong}
 
 -- where the texts of the f-th function begin
 abbrev pub text_place : (at : ℕ) → List RoutineData → (f : ℕ) → ℕ

@@ -25,9 +25,9 @@ use Rattle.rv_emit.specs.Relation.{IsPlace, Here, Lands, IsLaid, IsBuilt}
 use Rattle.rv_emit.proofs.Moves.{code_back}
 use Rattle.compiled_files.specs.Placing.{placed}
 use Rattle.compiled_files.specs.Sound.{RoutineFits, IsSound}
-use Rattle.compiled_files.proofs.Lengths.{StepsAreAsLong, FunctionsAreAsLong}
-use Rattle.compiled_files.proofs.Layouts.{inside_stands, inside_between}
-use Rattle.compiled_files.proofs.Functions.{text_place, entry_low, entry_whole, entry_high, entries_apart, function_stands, texts_placed}
+use Rattle.code_bounds.specs.CompiledLaws.{StepsAreAsLong, FunctionsAreAsLong}
+use Rattle.compiled_files.proofs.InImage.Layouts.{inside_stands, inside_between}
+use Rattle.compiled_files.proofs.InImage.Functions.{text_place, entry_low, entry_whole, entry_high, entries_apart, function_stands, texts_placed}
 
 -- a look-up with a default gives what is there
 get_is : (all : List ℕ) (i x : ℕ) → slice_get all i ≡ Some x → x ≡ get_or all i 0

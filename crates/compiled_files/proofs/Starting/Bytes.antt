@@ -9,8 +9,8 @@ use Rattle.rv_image.specs.Images.{end_of_room, full_segment, image_of, room_segm
 use Rattle.rv_isa.specs.Memory.{initial_memory}
 use Rattle.rv_isa.specs.declared.image.Segment.{Segment}
 use Rattle.tac_ir.specs.Code.{Code}
-use Rattle.compiled_files.proofs.Loaded.{memory_small}
-use Rattle.compiled_files.proofs.Putting.{AreBytes}
+use Rattle.compiled_files.proofs.Starting.Loaded.{memory_small}
+use Rattle.compiled_files.proofs.Starting.Putting.{AreBytes}
 
 abbrev Small : ℕ → Type 0
 Small b = b < 2 ^ 8

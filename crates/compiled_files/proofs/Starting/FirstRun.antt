@@ -31,9 +31,9 @@ use Rattle.rv_emit.specs.Claims.{AreClaims, Claims, Follows}
 use Rattle.rv_emit.proofs.Moves.{Goal}
 use Rattle.compiled_files.specs.Placing.{placed, room_of}
 use Rattle.compiled_files.specs.Sound.{IsSound}
-use Rattle.compiled_files.proofs.FirstCall.{by_entry}
-use Rattle.compiled_files.proofs.FirstSteps.{by_start}
-use Rattle.compiled_files.proofs.FirstWorld.{blocks_of, first_world, no_owner, owner_of}
+use Rattle.compiled_files.proofs.Starting.FirstCall.{by_entry}
+use Rattle.compiled_files.proofs.Starting.FirstSteps.{by_start}
+use Rattle.compiled_files.proofs.Starting.FirstWorld.{blocks_of, first_world, no_owner, owner_of}
 
 module _ (p : ProgramData) (t : Tac) (heap stack : ℕ) (fits : Fits p t) (sound : IsSound p (code_of t))
     -- memory holds bytes

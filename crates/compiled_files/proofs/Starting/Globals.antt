@@ -22,8 +22,8 @@ use Rattle.rv_isa.specs.Events.{heap_start}
 use Rattle.rv_runtime.specs.Bytes.{data_bytes, zeros}
 use Rattle.rv_runtime.specs.Routines.{data_place}
 use Rattle.rv_emit.proofs.Lists.{end_above, get_below, place_within}
-use Rattle.compiled_files.proofs.Objects.{Agree, AreObjects, object_cells, object_long, objects_agree, objects_outside}
-use Rattle.compiled_files.proofs.Putting.{put_outside}
+use Rattle.compiled_files.proofs.Starting.Objects.{Agree, AreObjects, object_cells, object_long, objects_agree, objects_outside}
+use Rattle.compiled_files.proofs.Starting.Putting.{put_outside}
 
 -- ---- texts
 

@@ -24,15 +24,15 @@ use Rattle.rv_image.proofs.Fitting.{code_in_range}
 use Rattle.rv_image.proofs.Lengths.{data_length, text_length}
 use Rattle.rv_image.proofs.Walks.{all_ends_behind}
 use Rattle.rv_emit.specs.Grounds.{Ground, InRoom}
-use Rattle.rv_emit.specs.Relation.{IsBuilt}
+use Rattle.rv_emit.specs.Relation.{Here, IsBuilt}
 use Rattle.compiled_files.specs.Placing.{placed, room_of}
 use Rattle.compiled_files.specs.Sound.{IsSound}
-use Rattle.compiled_files.proofs.Building.{built_on}
-use Rattle.compiled_files.proofs.Lengths.{StepsAreAsLong, FunctionsAreAsLong, ProgramsAreAsLong}
-use Rattle.compiled_files.proofs.Segments.{text_executable, globals_mapped, stack_mapped, heap_mapped}
-use Rattle.compiled_files.proofs.Segments.{quiet_loads, quiet_stores, told_loads, told_stores, text_holds, globals_hold}
-use Rattle.compiled_files.proofs.Standing.{code_stands}
-use Rattle.compiled_files.proofs.Texts.{all_texts_keep, placed_stand}
+use Rattle.compiled_files.proofs.InImage.Building.{built_on}
+use Rattle.code_bounds.specs.CompiledLaws.{StepsAreAsLong, FunctionsAreAsLong, ProgramsAreAsLong}
+use Rattle.compiled_files.proofs.InImage.Segments.{text_executable, globals_mapped, stack_mapped, heap_mapped}
+use Rattle.compiled_files.proofs.InImage.Segments.{quiet_loads, quiet_stores, told_loads, told_stores, text_holds, globals_hold}
+use Rattle.compiled_files.proofs.InImage.Standing.{code_stands}
+use Rattle.compiled_files.proofs.InImage.Texts.{all_texts_keep, placed_stand}
 
 -- ---- lengths
 
@@ -133,6 +133,10 @@ module _ (p : ProgramData) (t : Tac) (heap stack : ℕ) (fits : Fits p t) (heap_
       (λ a low high. text_executable text globals heap stack a 4 low high) code_address code (omega arith) (omega (arith, long))
       (recursion_from_All IsInRange code (code_in_range c stack (object_places p) (texts_at p) stack_high))
       (holds_back memory 0x00010000 0x1000 runtime_bytes (bytes_of (words_of code)) (runtime_long p c stack) all_bytes)
+
+  pub code_stands : Here ground (placed p (code_of t)) code_address code
+  unfolding ground
+  code_stands = program_stands
 
   module _ (steps : StepsAreAsLong) (functions : FunctionsAreAsLong) (programs : ProgramsAreAsLong) where
     code_ends : entries_end first_entry c.routines < code_end

@@ -1,0 +1,10 @@
+pub mod Putting
+pub mod Objects
+pub mod Globals
+pub mod Loaded
+pub mod Bytes
+pub mod Owners
+pub mod FirstWorld
+pub mod FirstSteps
+pub mod FirstCall
+pub mod FirstRun
