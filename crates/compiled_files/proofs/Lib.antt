@@ -6,3 +6,4 @@ pub mod Room
 pub mod Weighed
 pub mod Agreeing
 pub mod Compiled
+pub mod Theorem

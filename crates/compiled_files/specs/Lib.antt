@@ -1,3 +1,4 @@
 pub mod Placing
 pub mod Sound
 pub mod Files
+pub mod Laws
