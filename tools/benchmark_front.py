@@ -55,9 +55,9 @@ def safe_names():
             yield from (prefix + kind + suffix for kind in kinds[macro.split("(")[0]])
 
 
-def texts():
+def texts(sizes=SIZES):
     """A text of each size: each is a first part of the longer ones."""
-    out, size, number, sizes = [whole_header()], 0, 0, iter(SIZES)
+    out, size, number, sizes = [whole_header()], 0, 0, iter(sizes)
     wanted = next(sizes)
     for seed, text in programs.strict_programs(10**6):
         number += 1
