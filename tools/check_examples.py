@@ -1,9 +1,11 @@
 #!/usr/bin/env python3
-"""Tries the examples that are preprocessed: `examples/firmware` by its Makefile, and the headers of `include/`.
+"""Tries the examples that are compiled, `examples/firmware` by its Makefile, and the headers of `include/`.
 
-- `make interp`, `make profile` and `make run` of the firmware write what stands in `firmware.expected`. So does what GCC makes of the same files for the
-  machine at hand, with its own headers.
-- The program in `headers/`, which includes every header twice, writes under `layc interp` what it writes by GCC with its own headers.
+- Each program of `examples/` writes what stands beside it and ends as by GCC, under `layc interp` and, as `layc compile --plain` makes it, under `layc run` and
+  QEMU.
+- `make interp`, `make profile`, `make run`, `make qemu` and `make run-gcc` of the firmware write what stands in `firmware.expected`. So does what GCC makes of
+  the same files for the machine at hand, with its own headers.
+- The program in `headers/`, which includes every header twice, writes under `layc interp` and compiled what it writes by GCC with its own headers.
 - Each header serves alone, in two files of one program.
 
 What needs a tool that is missing is skipped, and the tool is named."""
@@ -14,11 +16,12 @@ import tempfile
 
 import checking
 from check_interp import makes_programs, read
-from checking import LAYC, check
+from checking import EMULATOR, LAYC, check
 from csmith_programs import GCC, write_files
 
 HERE = os.path.dirname(os.path.abspath(__file__))
-FIRMWARE, HEADERS = os.path.join(checking.HERE, "examples", "firmware"), os.path.join(HERE, "headers")
+EXAMPLES, HEADERS = os.path.join(checking.HERE, "examples"), os.path.join(HERE, "headers")
+FIRMWARE = os.path.join(EXAMPLES, "firmware")
 INCLUDE = os.path.join(checking.HERE, "include")
 FIRMWARE_FILES, HEADER_FILES = ["main.c", "ring.c", "channels.c"], ["every.1.c", "every.2.c"]
 
@@ -44,11 +47,26 @@ def check_same(what, done, wanted):
     check(got == (wanted, 0, b""), f"{what}: status {done.returncode}, {len(done.stdout)} bytes, errors {done.stderr[-300:]!r}; wanted {len(wanted)} bytes")
 
 
+def check_compiled(name, out, has_gcc, has_qemu):
+    path = os.path.join(out, "program.elf")
+    made = checking.run([LAYC, "compile", "-o", path, "--plain", name], cwd=EXAMPLES)
+    check((made.returncode, made.stdout, made.stderr) == (0, b"layc report 1\n", b""), f"{name} is not compiled: {made.stderr!r}")
+    if made.returncode != 0:
+        return
+    os.chmod(path, 0o755)
+    ends = [checking.run(words, cwd=EXAMPLES) for words in [[LAYC, "interp", name], [LAYC, "run", path], *[[EMULATOR, path]] * has_qemu]]
+    ends += [by_gcc(EXAMPLES, [name], out)] * has_gcc
+    wanted = read(os.path.join(EXAMPLES, name[:-2] + ".expected")), ends[0].returncode, b""
+    for done in ends:
+        got = done.stdout, done.returncode, done.stderr
+        check(got == wanted, f"{name}: {done.args[0]} gives {got}, wanted {wanted}")
+
+
 def make(target, out):
     return checking.run(["make", "-s", f"LAYC={LAYC}", f"OUT={out}", target], cwd=FIRMWARE)
 
 
-def check_firmware(out, has_gcc):
+def check_firmware(out, has_gcc, has_qemu):
     wanted = read(os.path.join(FIRMWARE, "firmware.expected"))
     if has_gcc:
         check_same("the firmware by GCC", by_gcc(FIRMWARE, FIRMWARE_FILES, out, read(os.path.join(FIRMWARE, "firmware.in"))), wanted)
@@ -58,17 +76,20 @@ def check_firmware(out, has_gcc):
     check_same("make profile", make("profile", out), wanted)
     profile = os.path.join(out, "firmware.profile")
     check(os.path.exists(profile) and read(profile).startswith(b"layc-profile 1\n"), "make profile leaves no profile")
+    check_same("make run", make("run", out), wanted)
+    if has_qemu:
+        check_same("make qemu", make("qemu", out), wanted)
     if checking.compiler():
-        done = make("run", out)
-        said, _, done.stderr = done.stderr.partition(b"\n")
-        check(b"run by layc" in said, f"make run says {said!r}")
-        check_same("make run", done, wanted)
+        check_same("make run-gcc", make("run-gcc", out), wanted)
 
 
 def check_headers(out):
     wanted = by_gcc(HEADERS, HEADER_FILES, out)
     check(wanted.returncode == 0, f"the program of headers by GCC: {wanted.stderr.decode()}")
-    check_same("the program of headers", checking.run([LAYC, "interp", *preprocessed(HEADERS, HEADER_FILES, out)]), wanted.stdout)
+    units, path = preprocessed(HEADERS, HEADER_FILES, out), os.path.join(out, "headers.elf")
+    check_same("the program of headers", checking.run([LAYC, "interp", *units]), wanted.stdout)
+    check_same("the file of headers", checking.run([LAYC, "compile", "-o", path, "--plain", *units]), b"layc report 1\n")
+    check_same("the run of the file of headers", checking.run([LAYC, "run", path]), wanted.stdout)
 
 
 def check_alone(out, header):
@@ -80,15 +101,17 @@ def check_alone(out, header):
 
 def main():
     if checking.built("layc") is None:
-        print("skipped: the examples that are preprocessed, for the compiler is not built")
+        print("skipped: the examples, for the compiler is not built")
         return 0
     if not checking.have("gcc"):
         return 0
-    has_gcc = makes_programs()
+    has_gcc, has_qemu = makes_programs(), checking.have(EMULATOR)
     if not has_gcc:
         print("skipped: the comparison with GCC, which makes no program for its 32-bit target here (package gcc-multilib)")
     with tempfile.TemporaryDirectory() as out:
-        check_firmware(out, has_gcc)
+        for name in sorted(name for name in os.listdir(EXAMPLES) if name.endswith(".c")):
+            check_compiled(name, out, has_gcc, has_qemu)
+        check_firmware(out, has_gcc, has_qemu)
         for header in sorted(os.listdir(INCLUDE)):
             check_alone(out, header)
         if has_gcc:

@@ -1,4 +1,4 @@
-/* What `make run` puts below the firmware where GCC makes the program: the calls of the library that layc has itself. */
+/* What `make run-gcc` puts below the firmware: the calls of the library that layc has itself. */
 
 unsigned read_bytes(void *to, unsigned count);
 unsigned write_bytes(const void *from, unsigned count);
