@@ -132,7 +132,7 @@ module _ (p : ProgramData) (t : Tac) (heap stack : ℕ) (fits : Fits p t) (sound
             (within e (omega (arith, place.0, h.2)) (omega (arith, place.1, h.2, h.3, texts_low)) o.text);
       }
 
-  -- a cell of a block is one of an object's, within its extent
+  -- a cell of a block is one of an object's, at a place of its own
   record OfObject (b i : ℕ) (e : Extent) (cell : Cell) : Type 0 where
     o : Object
     is : slice_get p.objects b ≡ Some o

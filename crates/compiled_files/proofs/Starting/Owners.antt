@@ -11,7 +11,7 @@ abbrev pub extents_from : (at : ℕ) → (sizes : List ℕ) → Extents
 extents_from at [] = []
 extents_from at (size ∷ more) = record { at = at; size = size } ∷ extents_from (at + whole_words size) more
 
--- the number of the block in whose extent an address lies, from the n-th on
+-- the number of the block in which an address lies, from the n-th on
 abbrev pub owner_among : (n : ℕ) → Extents → ℕ → Option ℕ
 owner_among n [] a = None
 owner_among n (e ∷ more) a = if nat_le e.at a && nat_lt a (e.at + e.size) then Some n else owner_among (n + 1) more a
@@ -20,7 +20,7 @@ pub extents_long : (at : ℕ) (sizes : List ℕ) → length (extents_from at siz
 extents_long at [] = refl
 extents_long at (size ∷ more) = ap suc (extents_long (at + whole_words size) more)
 
--- ---- each extent begins at its place and has its size
+-- ---- each block begins at its place and has its size
 
 pub extent_of : {A : Type 0} (f : A → ℕ) (at : ℕ) (all : List A) (n : ℕ) (x : A) → slice_get all n ≡ Some x
     → slice_get (extents_from at (map f all)) n ≡ Some (record { at = slice_index (places_from at (map f all)) n; size = f x })
