@@ -60,6 +60,13 @@ blocks_fit segments memory unused end n heap room = record {
 
 -- ---- the routines
 
+-- the two words of a product that is a word
+pub high_none : (m : ℕ) → m < 2 ^ 32 → m / 2 ^ 32 ≡ 0
+high_none m lt = omega arith
+
+pub low_all : (m : ℕ) → m < 2 ^ 32 → m % 2 ^ 32 ≡ m
+low_all m lt = omega arith
+
 module _ (segments : List Segment) (text : Memory) (Claim : ℕ → State → List MachineEvent → Type 0) (claim : IsBackward segments Claim)
     (runtime : Runtime segments text) (n : ℕ) (before : List MachineEvent) (memory : Memory) (input output : List ℕ) (keeps : Keeps text memory)
     (unused end : ℕ) (heap : Heap segments memory unused end) where
@@ -70,7 +77,7 @@ module _ (segments : List Segment) (text : Memory) (Claim : ℕ → State → Li
   code = runtime.malloc.1.1
 
   -- x13 is doubled until it is no less than m, which is x10
-  doubling : (m k q : ℕ) (h : ℕ → ℕ) → h 13 ≡ q → h 10 ≡ m → q < 2 ^ 32 → m ≤ 2 ^ 31 → m ≤ q * 2 ^ k
+  pub doubling : (m k q : ℕ) (h : ℕ → ℕ) → h 13 ≡ q → h 10 ≡ m → q < 2 ^ 32 → m ≤ 2 ^ 31 → m ≤ q * 2 ^ k
       → ((g : ℕ → ℕ) → g 13 ≡ rounded k q m → ((r : ℕ) → r ≢ 13 → g r ≡ h r) → Claim n (S g 0x10424) before) → Claim n (S h 0x10418) before
   unfolding rounded
   doubling m zero q h is arg small fits enough c =
@@ -205,9 +212,3 @@ module _ (segments : List Segment) (text : Memory) (Claim : ℕ → State → Li
       by_routine segments text Claim claim n (N top g 0x10610) (N top g 0x107FC) before (Jal 0 (pos 492)) kept runtime.calloc.1.1.1.1.0 refl refl
       (replies segments text Claim claim n before g 0x107FC (with_word memory data_place top) input output kept runtime.calloc_last place
       (still_returns f g place back leaves) (unused + 16) refl refl is (c g is leaves)))))))
-    where
-      high_none : (m : ℕ) → m < 2 ^ 32 → m / 2 ^ 32 ≡ 0
-      high_none m lt = omega arith
-
-      low_all : (m : ℕ) → m < 2 ^ 32 → m % 2 ^ 32 ≡ m
-      low_all m lt = omega arith

@@ -3,6 +3,7 @@ pub mod Standing
 pub mod Returning
 pub mod Rounded
 pub mod Allocation
+pub mod Breaking
 pub mod Ends
 pub mod Copying
 pub mod Filling

@@ -32,6 +32,19 @@ rounded_bounded zero q n = omega arith
 rounded_bounded (suc k) q n =
     cond_both (ltb q n) _ _ (λ (z : ℕ). z ≤ max q (2 * n)) (λ e. omega (arith, rounded_bounded k (q + q) n, ltb-true _ _ e)) (λ e. omega arith)
 
+-- doubling makes nothing less
+doubled_covers : (k q : ℕ) → q ≤ q * 2 ^ k
+doubled_covers zero q = omega arith
+doubled_covers (suc k) q = omega (arith, powers q k, doubled_covers k (q + q))
+
+-- where fewer doublings suffice, it is no more than they give
+pub rounded_within : (k q n : ℕ) → n ≤ q * 2 ^ k → rounded (suc k) q n ≤ q * 2 ^ k
+unfolding rounded
+rounded_within zero q n h = cond_both (ltb q n) _ _ (λ (z : ℕ). z ≤ q * 2 ^ 0) (λ e. absurd (omega (arith, ltb-true _ _ e))) (λ e. omega arith)
+rounded_within (suc k) q n h =
+    cond_both (ltb q n) (rounded (suc k) (q + q) n) q (λ (z : ℕ). z ≤ q * 2 ^ suc k)
+    (λ e. omega (arith, powers q k, rounded_within k (q + q) n (omega (arith, powers q k)))) (λ e. doubled_covers (suc k) q)
+
 pub taken_is : (n : ℕ) → rounded 28 16 n ≡ taken n
 unfolding taken
 taken_is n = refl
@@ -39,6 +52,11 @@ taken_is n = refl
 pub taken_bounded : (n : ℕ) → taken n ≤ max 16 (2 * n)
 unfolding taken
 taken_bounded n = rounded_bounded 28 16 n
+
+-- a request of up to 2 ^ 31 bytes takes no more than that
+pub taken_small : (n : ℕ) → n ≤ 2 ^ 31 → taken n ≤ 2 ^ 31
+unfolding taken
+taken_small n h = rounded_within 27 16 n h
 
 pub taken_covers : (n : ℕ) → n ≤ 2 ^ 32 → n ≤ taken n
 unfolding taken

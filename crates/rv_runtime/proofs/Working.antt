@@ -1,15 +1,19 @@
 -- Each routine from its first word back to the caller, by the laws that go backwards.
 use Rattle.std.proofs.Common.{◌≡◌, ℕ, ◌+◌, ◌*◌, List, [], ◌∷◌, refl}
 use Rattle.rv_isa.specs.declared.image.Segment.{Segment}
+use Rattle.rv_isa.specs.declared.instruction.Inst.TheVariants.{Ebreak}
 use Rattle.rv_isa.specs.Events.{MachineEvent, Reply, code_address, malloc_entry, calloc_entry, free_entry, events}
 use Rattle.rv_isa.specs.Memory.{Memory, with_word}
-use Rattle.rv_isa.specs.Step.{State}
-use Rattle.rv_steps.specs.States.{put, at, later, Leads, Reaches}
+use Rattle.rv_isa.specs.Step.{State, Ends, Break, step}
+use Rattle.rv_steps.specs.States.{put, at, later, Keeps, Leads, Reaches, Stands}
 use Rattle.rv_steps.proofs.Reaching.{in_order, reached, reaching}
+use Rattle.rv_steps.proofs.Steps.{break_ends}
 use Rattle.rv_runtime.specs.Effects.{Leaves, Copied, Filled, compared}
-use Rattle.rv_runtime.specs.Laws.{Entered, ComesBack, MallocGives, CallocGives, FreeDoesNothing, CopyCopies, FillFills, CompareAnswers, RoutinesDo, StartLeads, ExitEnds}
+use Rattle.rv_runtime.specs.Laws.{Entered, ComesBack, Breaks, MallocGives, CallocGives, MallocBreaks, CallocBreaks, FreeDoesNothing, CopyCopies}
+use Rattle.rv_runtime.specs.Laws.{FillFills, CompareAnswers, RoutinesDo, StartLeads, ExitEnds}
 use Rattle.rv_runtime.specs.Routines.{start_entry, exit_entry, copy_entry, fill_entry, compare_entry, data_place, head, taken}
 use Rattle.rv_runtime.proofs.Allocation.{malloc_works, calloc_works}
+use Rattle.rv_runtime.proofs.Breaking.{malloc_stops, calloc_stops}
 use Rattle.rv_runtime.proofs.Comparing.{compare_works}
 use Rattle.rv_runtime.proofs.Copying.{copy_works}
 use Rattle.rv_runtime.proofs.Ends.{free_works, start_works, exit_works, exit_is_end}
@@ -72,6 +76,26 @@ module _ (segments : List Segment) (memory : Memory) (input output : List ℕ) (
   arrive answer after told g is leaves =
       reached segments (To answer after told) (at g place after input output) told (g, is, leaves, (refl, refl))
 
+  -- a goal of stopping at an EBREAK, with memory, the input and the output as they are
+  abbrev Stopped : State → List MachineEvent → Type 0
+  Stopped u made =
+      (g : ℕ → ℕ) × (pc : ℕ) × (step segments (at g pc memory input output) ≡ Ends (Break pc)) × Is (at g pc memory input output) [] u made
+
+  stop : (text : Memory) → Keeps text memory → (g : ℕ → ℕ) (pc : ℕ) → Stands segments text pc Ebreak
+      → Reaches segments Stopped (at g pc memory input output) []
+  stop text keeps g pc stands =
+      reached segments Stopped (at g pc memory input output) [] (g, pc, break_ends segments text g pc memory input output keeps stands, (refl, refl))
+
+  breaks_of : (entry : ℕ) → Reaches segments Stopped (at f entry memory input output) [] → Breaks segments memory input output f entry
+  breaks_of entry h =
+      let r = h.1 in
+      record {
+        registers = r.0;
+        place = r.1;
+        leads = record { steps = h.0; arrives = r.3.0; makes = in_order (events segments h.0 (at f entry memory input output)) [] r.3.1 };
+        ends = r.2;
+      }
+
   module _ (text : Memory) (entered : Entered segments text memory f place) where
     malloc_gives : (unused end : ℕ) → MallocGives segments memory input output f place unused end
     malloc_gives unused end heap room =
@@ -90,6 +114,18 @@ module _ (segments : List Segment) (memory : Memory) (input output : List ℕ) (
         (calloc_works segments text (λ n s before. Reaches segments (To (unused + head) after told) s before) (reaching segments (To (unused + head) after told))
         entered.runtime 0 [] memory input output entered.keeps unused end heap f place entered.returns word room
         (λ g is leaves. arrive (unused + head) after told g is leaves))
+
+    malloc_breaks : (unused end : ℕ) → MallocBreaks segments memory input output f place unused end
+    malloc_breaks unused end room =
+        breaks_of malloc_entry
+        (malloc_stops segments text (λ n s before. Reaches segments Stopped s before) (reaching segments Stopped) entered.runtime 0 [] memory input output
+        entered.keeps f place entered.returns unused end room (stop text entered.keeps))
+
+    calloc_breaks : (unused end : ℕ) → CallocBreaks segments memory input output f place unused end
+    calloc_breaks unused end room =
+        breaks_of calloc_entry
+        (calloc_stops segments text (λ n s before. Reaches segments Stopped s before) (reaching segments Stopped) entered.runtime 0 [] memory input output
+        entered.keeps f place entered.returns unused end room (stop text entered.keeps))
 
     free_does_nothing : FreeDoesNothing segments memory input output f place
     free_does_nothing =
@@ -127,6 +163,8 @@ pub routines_work : (segments : List Segment) (text memory : Memory) (input outp
 routines_work segments text memory input output f place entered = record {
   malloc = malloc_gives segments memory input output f place text entered;
   calloc = calloc_gives segments memory input output f place text entered;
+  malloc_breaks = malloc_breaks segments memory input output f place text entered;
+  calloc_breaks = calloc_breaks segments memory input output f place text entered;
   free = free_does_nothing segments memory input output f place text entered;
   copy = copy_copies segments memory input output f place text entered;
   fill = fill_fills segments memory input output f place text entered;

@@ -3,7 +3,7 @@ use Rattle.std.specs.Prelude.{◌≡◌, ℕ, zero, suc, ◌+◌, ◌-◌, ◌%�
 use Rattle.rv_isa.specs.declared.image.Segment.{Segment}
 use Rattle.rv_isa.specs.Events.{code_address, heap_start}
 use Rattle.rv_isa.specs.Memory.{Memory, readable, writable, are_mapped, word_at}
-use Rattle.rv_runtime.specs.Routines.{data_place}
+use Rattle.rv_runtime.specs.Routines.{data_place, head, taken}
 
 -- ---- registers
 
@@ -30,6 +30,12 @@ pub record Heap (segments : List Segment) (memory : Memory) (unused end : ℕ) :
   pub small : end ≤ 2 ^ 31
   pub reads : are_mapped segments readable data_place 8 ≡ true
   pub writes : are_mapped segments writable data_place 4 ≡ true
+
+-- what is left of the heap, if anything, is less than a request for n bytes takes with its head
+pub record NoRoom (segments : List Segment) (memory : Memory) (unused end n : ℕ) : Type 0 where
+  pub heap : Heap segments memory unused end
+  pub inside : unused ≤ end
+  pub full : end < unused + head + taken n
 
 -- each byte of a range is what the byte in the other range was, and nothing else changes
 pub record Copied (before after : Memory) (to from n : ℕ) : Type 0 where

@@ -1,12 +1,12 @@
 -- What each routine does, from its first word back to the caller.
-use Rattle.std.specs.Prelude.{◌≡◌, ℕ, ◌+◌, ◌*◌, ◌%◌, ◌^◌, ◌<◌, ◌≤◌, true, List, [], ◌∷◌}
+use Rattle.std.specs.Prelude.{◌≡◌, ℕ, ◌+◌, ◌*◌, ◌%◌, ◌^◌, ◌<◌, ◌≤◌, ◌⊎◌, true, List, [], ◌∷◌}
 use Rattle.rv_isa.specs.declared.image.Segment.{Segment}
 use Rattle.rv_isa.specs.Events.{MachineEvent, Reply, code_address, malloc_entry, calloc_entry, free_entry, heap_start}
 use Rattle.rv_isa.specs.Memory.{Memory, executable, readable, writable, are_mapped, with_word}
-use Rattle.rv_isa.specs.Step.{Ends, Exits, step}
+use Rattle.rv_isa.specs.Step.{Ends, Exits, Break, step}
 use Rattle.rv_steps.specs.States.{put, at, code_end, Keeps, Leads}
 use Rattle.rv_runtime.specs.Bytes.{runtime_bytes, data_bytes, Holds, Runtime}
-use Rattle.rv_runtime.specs.Effects.{Leaves, Returns, Heap, Copied, Filled, compared}
+use Rattle.rv_runtime.specs.Effects.{Leaves, Returns, Heap, NoRoom, Copied, Filled, compared}
 use Rattle.rv_runtime.specs.Routines.{start_entry, exit_entry, copy_entry, fill_entry, compare_entry, data_place, head, taken}
 
 -- ---- where they stand
@@ -49,6 +49,13 @@ pub record ComesBack (segments : List Segment) (memory after : Memory) (input ou
   pub answers : registers 10 ≡ answer
   pub leaves : Leaves before registers
 
+-- it stops at an EBREAK, has made no event, and leaves memory, the input and the output as they were
+pub record Breaks (segments : List Segment) (memory : Memory) (input output : List ℕ) (before : ℕ → ℕ) (entry : ℕ) : Type 0 where
+  pub registers : ℕ → ℕ
+  pub place : ℕ
+  pub leads : Leads segments (at before entry memory input output) (at registers place memory input output) []
+  pub ends : step segments (at registers place memory input output) ≡ Ends (Break place)
+
 module _ (segments : List Segment) (memory : Memory) (input output : List ℕ) (f : ℕ → ℕ) (place : ℕ) where
   -- malloc, where there is room for a head and the number of bytes in x10, rounded up
   abbrev pub MallocGives : (unused end : ℕ) → Type 0
@@ -61,6 +68,14 @@ module _ (segments : List Segment) (memory : Memory) (input output : List ℕ) (
   CallocGives unused end = Heap segments memory unused end → f 10 * f 11 < 2 ^ 32 → unused + head + taken (f 10 * f 11) ≤ end
       → ComesBack segments memory (with_word memory data_place (unused + head + taken (f 10 * f 11))) input output f calloc_entry place (unused + head)
       (Reply (unused + head) ∷ [])
+
+  -- malloc, where there is no room
+  abbrev pub MallocBreaks : (unused end : ℕ) → Type 0
+  MallocBreaks unused end = NoRoom segments memory unused end (f 10) → Breaks segments memory input output f malloc_entry
+
+  -- calloc, where the product is no word, and where there is no room for it
+  abbrev pub CallocBreaks : (unused end : ℕ) → Type 0
+  CallocBreaks unused end = (2 ^ 32 ≤ f 10 * f 11) ⊎ NoRoom segments memory unused end (f 10 * f 11) → Breaks segments memory input output f calloc_entry
 
   -- free
   abbrev pub FreeDoesNothing : Type 0
@@ -87,6 +102,8 @@ module _ (segments : List Segment) (memory : Memory) (input output : List ℕ) (
 pub record RoutinesDo (segments : List Segment) (memory : Memory) (input output : List ℕ) (f : ℕ → ℕ) (place : ℕ) : Type 0 where
   pub malloc : (unused end : ℕ) → MallocGives segments memory input output f place unused end
   pub calloc : (unused end : ℕ) → CallocGives segments memory input output f place unused end
+  pub malloc_breaks : (unused end : ℕ) → MallocBreaks segments memory input output f place unused end
+  pub calloc_breaks : (unused end : ℕ) → CallocBreaks segments memory input output f place unused end
   pub free : FreeDoesNothing segments memory input output f place
   pub copy : CopyCopies segments memory input output f place
   pub fill : FillFills segments memory input output f place

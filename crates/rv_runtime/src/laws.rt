@@ -19,7 +19,8 @@ pub fn blocks_fit()
 {}
 
 /// Entered at its first word, each of the routines from MALLOC to COMPARE comes back to x1 and leaves what it is to leave; MALLOC and CALLOC do where there
-/// is room.
+/// is room. Where what is left of the heap is too little, or the product of CALLOC is no word, they stop at an EBREAK, with memory, the input and the output
+/// as they were.
 pub fn routines_work()
     ensures { RoutinesWork }
 {}

@@ -3,9 +3,7 @@
 //! It stands on `rv_isa`, whose instructions the routines are, and on `rv_steps`. It promises that `runtime` answers the bytes of the routines, each at its
 //! place, which stand at the front of a program's text, and `runtime_data` those at the front of its data; that the routines stand where these bytes do; and
 //! what each of them leaves (`specs/Laws.antt`). For proofs about code that calls them, `proofs/` says the same backwards, for any claim: `malloc_works`,
-//! `calloc_works`, `free_works`, `copy_works`, `fill_works`, `compare_works`, `start_works`, `exit_works`.
-//!
-//! Not proved: that MALLOC and CALLOC meet an EBREAK where there is no room.
+//! `calloc_works`, `malloc_stops`, `calloc_stops`, `free_works`, `copy_works`, `fill_works`, `compare_works`, `start_works`, `exit_works`.
 #![tactic(auto)]
 
 mod laws;
