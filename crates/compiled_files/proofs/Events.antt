@@ -9,7 +9,7 @@ use Rattle.rv_emit.specs.Grounds.{Ground}
 use Rattle.rv_emit.specs.Maps.{Extent, Extents}
 use Rattle.rv_emit.specs.Relation.{IsMade, Program}
 use Rattle.rv_isa.specs.Events.{MachineEvent, Request, Reply, Release, Load, Store}
-use Rattle.rv_steps.specs.States.{later}
+use Rattle.rv_runtime.specs.Steps.States.{later}
 
 -- where a block lies, by its number
 abbrev pub place_if_any : Option Extent → ℕ

@@ -26,9 +26,9 @@ use Rattle.block_memory.specs.declared.run_worlds.value.Value.TheVariants.{Word 
 use Rattle.rv_isa.specs.Arithmetic.{extended}
 use Rattle.rv_isa.specs.Memory as M
 use Rattle.rv_isa.specs.Memory.{half_at, word_at, with_byte, with_half, with_word}
-use Rattle.rv_steps.specs.States.{Keeps, code_end}
-use Rattle.rv_steps.proofs.Operators.{IsLoad, IsStore, is_lb, is_lbu, is_lh, is_lhu, is_lw, is_sb, is_sh, is_sw}
-use Rattle.rv_steps.proofs.Words.{byte_0, byte_1, byte_2, byte_3, half_fits, half_other, keeps_byte, keeps_half, keeps_word, with_byte_other, with_byte_same, with_word_other, word_fits}
+use Rattle.rv_runtime.specs.Steps.States.{Keeps, code_end}
+use Rattle.rv_runtime.proofs.Steps.Operators.{IsLoad, IsStore, is_lb, is_lbu, is_lh, is_lhu, is_lw, is_sb, is_sh, is_sw}
+use Rattle.rv_runtime.proofs.Steps.Words.{byte_0, byte_1, byte_2, byte_3, half_fits, half_other, keeps_byte, keeps_half, keeps_word, with_byte_other, with_byte_same, with_word_other, word_fits}
 use Rattle.rv_code.specs.Words.{load_by, load_number as load_instruction, store_by, store_number as store_instruction}
 use Rattle.rv_code.specs.declared.layout.Places.{Places}
 use Rattle.tac_ir.specs.Code.{Code}

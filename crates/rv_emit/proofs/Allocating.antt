@@ -15,7 +15,7 @@ use Rattle.c_meaning.specs.declared.frame.Slot.TheVariants.{ByName as by_name, I
 use Rattle.rv_isa.specs.Memory as M
 use Rattle.rv_isa.specs.Memory.{word_at, with_word}
 use Rattle.rv_isa.specs.Events.{Request, Reply}
-use Rattle.rv_steps.proofs.Words.{word_apart, word_again, keeps_word}
+use Rattle.rv_runtime.proofs.Steps.Words.{word_apart, word_again, keeps_word}
 use Rattle.rv_runtime.specs.Routines.{data_place, head, taken}
 use Rattle.rv_runtime.proofs.Rounded.{taken_stopped, taken_weighs, taken_whole}
 use Rattle.rv_code.specs.Frames.{block_places, block_sizes, slot_at, slots}

@@ -24,8 +24,8 @@ use Rattle.rv_isa.specs.Arithmetic as R
 use Rattle.rv_isa.specs.Arithmetic.{one_if, extended}
 use Rattle.rv_isa.specs.declared.instruction.Inst.{Inst}
 use Rattle.rv_isa.specs.declared.instruction.Inst.TheVariants.{Andi, Div, Divu, Rem, Remu, Sltiu, Slli, Sra, Srai, Srl, Srli, Sub, Xori}
-use Rattle.rv_steps.proofs.Operators.{IsBinary, is_add, is_sub, is_mul, is_div, is_divu, is_rem, is_remu, is_sll, is_srl, is_sra, is_and, is_or, is_xor}
-use Rattle.rv_steps.proofs.Operators.{is_andi, is_sltiu, is_slli, is_srai, is_srli, is_xori}
+use Rattle.rv_runtime.proofs.Steps.Operators.{IsBinary, is_add, is_sub, is_mul, is_div, is_divu, is_rem, is_remu, is_sll, is_srl, is_sra, is_and, is_or, is_xor}
+use Rattle.rv_runtime.proofs.Steps.Operators.{is_andi, is_sltiu, is_slli, is_srai, is_srli, is_xori}
 use Rattle.tac_ir.specs.Running.{Next, as_number, with_temp}
 use Rattle.tac_ir.specs.declared.step.Operand.{Operand}
 use Rattle.tac_ir.specs.declared.step.Step.TheVariants as S

@@ -6,10 +6,10 @@ use Rattle.rv_isa.specs.Events.{MachineEvent, code_address, entered, events, eve
 use Rattle.rv_isa.specs.Memory.{Memory}
 use Rattle.rv_isa.specs.Run.{state_after, state_then}
 use Rattle.rv_isa.specs.Step.{State, Stepped, Goes, Ends, register, step}
-use Rattle.rv_steps.specs.States.{Code, Keeps, Leads, at, later, put}
-use Rattle.rv_steps.proofs.Reaching.{later_both}
-use Rattle.rv_steps.proofs.Registers.{put_again, register_is}
-use Rattle.rv_steps.proofs.Steps.{by_enter, linked}
+use Rattle.rv_runtime.specs.Steps.States.{Code, Keeps, Leads, at, later, put}
+use Rattle.rv_runtime.proofs.Steps.Reaching.{later_both}
+use Rattle.rv_runtime.proofs.Steps.Registers.{put_again, register_is}
+use Rattle.rv_runtime.proofs.Steps.Steps.{by_enter, linked}
 use Rattle.rv_code.specs.Words.{call_code, lower, upper}
 use Rattle.rv_emit.specs.Grounds.{Ground}
 use Rattle.rv_emit.proofs.Moves.{Goal, Shown, by_lui, number_value}

@@ -21,8 +21,8 @@ use Rattle.rv_isa.specs.declared.instruction.Inst.{Inst}
 use Rattle.rv_isa.specs.declared.instruction.Inst.TheVariants.{Bgeu, Ebreak, Jalr, Sub}
 use Rattle.rv_isa.specs.Arithmetic.{difference, plus}
 use Rattle.rv_isa.specs.Memory.{with_word, word_at}
-use Rattle.rv_steps.specs.States.{at, code_end, put}
-use Rattle.rv_steps.proofs.Operators.{by_binary, by_branch_taken, by_jalr_linked, is_bgeu, is_sub}
+use Rattle.rv_runtime.specs.Steps.States.{at, code_end, put}
+use Rattle.rv_runtime.proofs.Steps.Operators.{by_binary, by_branch_taken, by_jalr_linked, is_bgeu, is_sub}
 use Rattle.rv_code.specs.Code.{a_word, code_if_any, entry_code, get_code, give_code, is_block, parameters_code, row_code, stack_place, steps_code}
 use Rattle.rv_code.specs.Frames.{slot_at, slots}
 use Rattle.rv_code.specs.Words.{address_code, call_code, keep_code, number_code}

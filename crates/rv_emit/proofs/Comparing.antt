@@ -25,7 +25,7 @@ use Rattle.rv_isa.specs.Arithmetic as R
 use Rattle.rv_isa.specs.Arithmetic.{one_if, extended}
 use Rattle.rv_isa.specs.declared.instruction.Inst.{Inst}
 use Rattle.rv_isa.specs.declared.instruction.Inst.TheVariants.{Slt, Sltiu, Sltu, Sub, Xori}
-use Rattle.rv_steps.proofs.Operators.{IsBinary, is_slt, is_sltiu, is_sltu, is_sub, is_xori}
+use Rattle.rv_runtime.proofs.Steps.Operators.{IsBinary, is_slt, is_sltiu, is_sltu, is_sub, is_xori}
 use Rattle.tac_ir.specs.Running.{Next, with_temp}
 use Rattle.tac_ir.specs.declared.step.Operand.{Operand}
 use Rattle.tac_ir.specs.declared.step.Step.TheVariants as S

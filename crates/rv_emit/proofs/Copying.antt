@@ -16,8 +16,8 @@ use Rattle.block_memory.specs.RunWorlds.Worlds.{World}
 use Rattle.block_memory.specs.declared.run_worlds.value.Value.{Value}
 use Rattle.rv_isa.specs.Memory as M
 use Rattle.rv_isa.specs.Memory.{are_mapped, readable, writable}
-use Rattle.rv_steps.specs.States.{Keeps, at, code_end, put}
-use Rattle.rv_steps.proofs.Ranges.{mapped_each}
+use Rattle.rv_runtime.specs.Steps.States.{Keeps, at, code_end, put}
+use Rattle.rv_runtime.proofs.Steps.Ranges.{mapped_each}
 use Rattle.rv_runtime.specs.Effects.{Copied}
 use Rattle.rv_runtime.specs.Laws.{Entered}
 use Rattle.rv_runtime.specs.Routines.{copy_entry}

@@ -20,7 +20,7 @@ use Rattle.block_memory.specs.declared.run_worlds.value.Value.TheVariants.{Word 
 use Rattle.c_meaning.specs.declared.frame.Slot.TheVariants.{ByName as by_name}
 use Rattle.rv_isa.specs.Memory as M
 use Rattle.rv_isa.specs.Memory.{are_mapped, readable}
-use Rattle.rv_steps.specs.States.{at, put}
+use Rattle.rv_runtime.specs.Steps.States.{at, put}
 use Rattle.rv_runtime.specs.Effects.{compared}
 use Rattle.rv_runtime.specs.Laws.{Entered}
 use Rattle.rv_runtime.specs.Routines.{compare_entry}

@@ -8,7 +8,7 @@ use Rattle.c_meaning.specs.declared.frame.Slot.{Slot}
 use Rattle.rv_isa.specs.Events.{code_address}
 use Rattle.rv_isa.specs.Memory as M
 use Rattle.rv_isa.specs.Memory.{word_at, with_word}
-use Rattle.rv_steps.proofs.Words.{keeps_word, word_again}
+use Rattle.rv_runtime.proofs.Steps.Words.{keeps_word, word_again}
 use Rattle.rv_code.specs.Code.{give_code, is_block, stack_place, steps_code}
 use Rattle.rv_code.specs.Frames.{block_places, block_sizes, kept_in, slot_at, slots}
 use Rattle.rv_code.specs.declared.layout.Layout.{Layout}

@@ -18,9 +18,9 @@ use Rattle.rv_isa.specs.declared.instruction.Inst.TheVariants.{Jalr}
 use Rattle.rv_isa.specs.Arithmetic.{plus}
 use Rattle.rv_isa.specs.Memory.{word_at}
 use Rattle.rv_isa.specs.Step.{Ends, Exits, register}
-use Rattle.rv_steps.specs.States.{at, put}
-use Rattle.rv_steps.proofs.Registers.{register_is}
-use Rattle.rv_steps.proofs.Steps.{by_enter}
+use Rattle.rv_runtime.specs.Steps.States.{at, put}
+use Rattle.rv_runtime.proofs.Steps.Registers.{register_is}
+use Rattle.rv_runtime.proofs.Steps.Steps.{by_enter}
 use Rattle.rv_runtime.specs.Routines.{exit_entry}
 use Rattle.rv_runtime.proofs.Working.{exit_ends}
 use Rattle.rv_code.specs.Code.{is_block, one_code, return_code, steps_code, temporary_code}

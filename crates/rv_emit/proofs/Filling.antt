@@ -16,7 +16,7 @@ use Rattle.rv_isa.specs.declared.instruction.Inst.TheVariants.{Addi}
 use Rattle.rv_isa.specs.Arithmetic.{plus}
 use Rattle.rv_isa.specs.Memory as M
 use Rattle.rv_isa.specs.Memory.{are_mapped, writable}
-use Rattle.rv_steps.specs.States.{Keeps, at, code_end, put}
+use Rattle.rv_runtime.specs.Steps.States.{Keeps, at, code_end, put}
 use Rattle.rv_runtime.specs.Effects.{Filled}
 use Rattle.rv_runtime.specs.Laws.{Entered}
 use Rattle.rv_runtime.specs.Routines.{fill_entry}

@@ -18,7 +18,7 @@ use Rattle.block_memory.specs.declared.run_worlds.value.Value.TheVariants.{Word 
 use Rattle.c_meaning.specs.declared.frame.Slot.TheVariants.{ByName as by_name}
 use Rattle.rv_isa.specs.Memory.{word_at}
 use Rattle.rv_isa.specs.Events.{MachineEvent, Release, entered, free_entry}
-use Rattle.rv_steps.specs.States.{at, later, put}
+use Rattle.rv_runtime.specs.Steps.States.{at, later, put}
 use Rattle.rv_runtime.specs.Laws.{Entered}
 use Rattle.rv_runtime.proofs.Working.{routines_work}
 use Rattle.rv_code.specs.Code.{one_code, steps_code}

@@ -9,7 +9,7 @@ use Rattle.c_meaning.specs.declared.frame.Slot.TheVariants.{ByName as by_name, I
 use Rattle.rv_isa.specs.Memory as M
 use Rattle.rv_isa.specs.Memory.{are_mapped, word_at, with_word}
 use Rattle.rv_isa.specs.Events.{code_address}
-use Rattle.rv_steps.proofs.Words.{word_apart, word_again, with_word_other, keeps_word}
+use Rattle.rv_runtime.proofs.Steps.Words.{word_apart, word_again, with_word_other, keeps_word}
 use Rattle.tac_ir.specs.Running.{with_temp}
 use Rattle.rv_code.specs.Code.{is_block}
 use Rattle.rv_code.specs.Frames.{slot_at, slots}

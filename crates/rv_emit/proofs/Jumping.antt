@@ -18,9 +18,9 @@ use Rattle.block_memory.specs.declared.run_worlds.value.Value.TheVariants.{Word 
 use Rattle.rv_isa.specs.Arithmetic.{plus}
 use Rattle.rv_isa.specs.declared.instruction.Inst.{Inst}
 use Rattle.rv_isa.specs.declared.instruction.Inst.TheVariants.{Addi, Bne, Blt, Bltu, Bge, Bgeu}
-use Rattle.rv_steps.specs.States.{put, at}
-use Rattle.rv_steps.proofs.Operators.{IsBranch, is_beq, is_bne, is_blt, is_bltu, is_bge, is_bgeu, by_branch_taken, by_branch_passed}
-use Rattle.rv_steps.proofs.Steps.{by_nothing}
+use Rattle.rv_runtime.specs.Steps.States.{put, at}
+use Rattle.rv_runtime.proofs.Steps.Operators.{IsBranch, is_beq, is_bne, is_blt, is_bltu, is_bge, is_bgeu, by_branch_taken, by_branch_passed}
+use Rattle.rv_runtime.proofs.Steps.Steps.{by_nothing}
 use Rattle.tac_ir.specs.Code.{led}
 use Rattle.tac_ir.specs.Running.{Next, no_place}
 use Rattle.tac_ir.specs.declared.step.Operand.{Operand}

@@ -10,8 +10,8 @@ use Rattle.c_meaning.specs.declared.frame.Slot.TheVariants.{ByName as by_name, I
 use Rattle.rv_isa.specs.Memory as M
 use Rattle.rv_isa.specs.Memory.{word_at}
 use Rattle.rv_isa.specs.Events.{MachineEvent}
-use Rattle.rv_steps.specs.States.{Keeps}
-use Rattle.rv_steps.proofs.Words.{word_same}
+use Rattle.rv_runtime.specs.Steps.States.{Keeps}
+use Rattle.rv_runtime.proofs.Steps.Words.{word_same}
 use Rattle.rv_runtime.specs.Routines.{data_place}
 use Rattle.tac_ir.specs.Code.{RoutineData}
 use Rattle.tac_ir.specs.Running.{Caller}

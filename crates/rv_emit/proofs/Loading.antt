@@ -21,8 +21,8 @@ use Rattle.block_memory.specs.declared.run_worlds.value.Value.TheVariants.{Word 
 use Rattle.c_meaning.specs.declared.frame.Slot.TheVariants.{ByName as by_name}
 use Rattle.rv_isa.specs.Arithmetic.{plus}
 use Rattle.rv_isa.specs.Events.{MachineEvent, Load, loads_at}
-use Rattle.rv_steps.specs.States.{later, put}
-use Rattle.rv_steps.proofs.Operators.{by_load_of}
+use Rattle.rv_runtime.specs.Steps.States.{later, put}
+use Rattle.rv_runtime.proofs.Steps.Operators.{by_load_of}
 use Rattle.tac_ir.specs.Running.{Next, with_temp}
 use Rattle.tac_ir.specs.declared.step.Operand.{Operand}
 use Rattle.tac_ir.specs.declared.step.Step.TheVariants as S

@@ -4,9 +4,9 @@ use Rattle.std.proofs.lemmas.Bool.{cond_both}
 use Rattle.rv_isa.specs.declared.instruction.Inst.{Inst}
 use Rattle.rv_isa.specs.Memory.{Memory}
 use Rattle.rv_isa.specs.Events.{code_address}
-use Rattle.rv_steps.specs.States.{put, Code, Keeps}
-use Rattle.rv_steps.proofs.Registers.{put_other}
-use Rattle.rv_steps.proofs.Operators.{IsBinary, IsUnary, by_binary, by_unary}
+use Rattle.rv_runtime.specs.Steps.States.{put, Code, Keeps}
+use Rattle.rv_runtime.proofs.Steps.Registers.{put_other}
+use Rattle.rv_runtime.proofs.Steps.Operators.{IsBinary, IsUnary, by_binary, by_unary}
 use Rattle.rv_code.specs.Words.{number_code}
 use Rattle.rv_emit.specs.Grounds.{Ground}
 use Rattle.rv_emit.proofs.Moves.{Goal, Shown, here, code_front, code_back, by_number}

@@ -10,10 +10,10 @@ use Rattle.rv_isa.specs.Memory.{Memory, readable, writable, are_mapped, word_at,
 use Rattle.rv_isa.specs.Arithmetic.{plus, sum}
 use Rattle.rv_isa.specs.Step.{State}
 use Rattle.rv_isa.specs.Events.{MachineEvent, loads_at, stores_at, code_address}
-use Rattle.rv_steps.specs.States.{put, at, IsBackward, Stands, Code, Keeps}
-use Rattle.rv_steps.proofs.Registers.{put_same, put_other, put_again}
-use Rattle.rv_steps.proofs.Steps.{by_put}
-use Rattle.rv_steps.proofs.Operators.{is_add, is_addi, is_lw, is_sw, by_binary, by_unary, by_load_of, by_store_of, by_jalr, by_jalr_linked}
+use Rattle.rv_runtime.specs.Steps.States.{put, at, IsBackward, Stands, Code, Keeps}
+use Rattle.rv_runtime.proofs.Steps.Registers.{put_same, put_other, put_again}
+use Rattle.rv_runtime.proofs.Steps.Steps.{by_put}
+use Rattle.rv_runtime.proofs.Steps.Operators.{is_add, is_addi, is_lw, is_sw, by_binary, by_unary, by_load_of, by_store_of, by_jalr, by_jalr_linked}
 use Rattle.rv_code.specs.Code.{a_word}
 use Rattle.rv_code.specs.Words.{upper, lower, number_code, place_code, fetch_code, keep_code, address_code, jump_code, call_code}
 use Rattle.rv_emit.specs.Grounds.{Ground}

@@ -28,7 +28,7 @@ use Rattle.block_memory.specs.declared.run_worlds.value.Value.TheVariants.{Word 
 use Rattle.rv_isa.specs.Arithmetic as R
 use Rattle.rv_isa.specs.declared.instruction.Inst.{Inst}
 use Rattle.rv_isa.specs.declared.instruction.Inst.TheVariants.{Add, Div, Sub}
-use Rattle.rv_steps.proofs.Operators.{is_div}
+use Rattle.rv_runtime.proofs.Steps.Operators.{is_div}
 use Rattle.tac_ir.specs.Running.{Next, address, with_temp}
 use Rattle.tac_ir.specs.declared.step.Operand.{Operand}
 use Rattle.tac_ir.specs.declared.step.Step.TheVariants as S

@@ -2,7 +2,7 @@
 use Rattle.std.proofs.Common.{◌≡◌, ◌≢◌, ℕ, ◌+◌, ◌≤◌, inl, true, Some, None, ap, sym, ◌∙◌, subst, arith}
 use Rattle.rv_isa.specs.Memory as M
 use Rattle.rv_isa.specs.Memory.{are_mapped, readable, word_at, writable}
-use Rattle.rv_steps.specs.States.{Keeps}
+use Rattle.rv_runtime.specs.Steps.States.{Keeps}
 use Rattle.rv_emit.specs.Grounds.{Ground}
 use Rattle.rv_emit.specs.Relation.{Program, Moment, Point, Ready, Callers}
 use Rattle.rv_emit.proofs.Keeping.{KeepsOther, KeepsOwned, back_stays, byte_place, callers_stay, framed_stays, world_stays}

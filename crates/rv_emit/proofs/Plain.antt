@@ -5,7 +5,7 @@ use Rattle.block_memory.specs.RunWorlds.Worlds.{End}
 use Rattle.block_memory.specs.declared.run_worlds.value.Value.{Value}
 use Rattle.c_meaning.specs.declared.frame.Slot.TheVariants.{ByName as by_name}
 use Rattle.rv_isa.specs.declared.instruction.Inst.{Inst}
-use Rattle.rv_steps.specs.States.{put}
+use Rattle.rv_runtime.specs.Steps.States.{put}
 use Rattle.tac_ir.specs.Running.{Next, does, with_temp}
 use Rattle.tac_ir.specs.declared.step.Operand.{Operand}
 use Rattle.tac_ir.specs.declared.step.Step.{Step}

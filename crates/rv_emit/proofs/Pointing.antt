@@ -24,7 +24,7 @@ use Rattle.c_meaning.specs.declared.frame.Slot.TheVariants.{ByName as by_name}
 use Rattle.rv_isa.specs.Arithmetic as R
 use Rattle.rv_isa.specs.Arithmetic.{extended, plus}
 use Rattle.rv_isa.specs.declared.instruction.Inst.TheVariants.{Add, Addi, Mul, Slli, Sub}
-use Rattle.rv_steps.proofs.Operators.{is_add, is_addi, is_mul, is_slli, is_sub}
+use Rattle.rv_runtime.proofs.Steps.Operators.{is_add, is_addi, is_mul, is_slli, is_sub}
 use Rattle.tac_ir.specs.Running.{Next, with_temp}
 use Rattle.tac_ir.specs.declared.step.Operand.{Operand}
 use Rattle.tac_ir.specs.declared.step.Step.TheVariants as S

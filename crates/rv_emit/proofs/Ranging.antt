@@ -12,7 +12,7 @@ use Rattle.block_memory.specs.RunWorlds.Worlds.{World}
 use Rattle.block_memory.specs.declared.run_worlds.value.Value.{Value}
 use Rattle.block_memory.specs.declared.run_worlds.value.Value.TheVariants.{Word as word, Pointer as pointer}
 use Rattle.c_meaning.specs.declared.frame.Slot.TheVariants.{ByName as by_name}
-use Rattle.rv_steps.specs.States.{at, put}
+use Rattle.rv_runtime.specs.Steps.States.{at, put}
 use Rattle.rv_runtime.specs.Laws.{Entered}
 use Rattle.rv_runtime.specs.Routines.{copy_entry}
 use Rattle.rv_runtime.proofs.Working.{routines_work}

@@ -19,10 +19,10 @@ use Rattle.rv_isa.specs.declared.instruction.Inst.TheVariants.{Beq, Lbu}
 use Rattle.rv_isa.specs.Arithmetic.{plus}
 use Rattle.rv_isa.specs.Memory as M
 use Rattle.rv_isa.specs.Memory.{with_bytes}
-use Rattle.rv_steps.specs.States.{at, put}
-use Rattle.rv_steps.proofs.Operators.{by_branch_passed, by_branch_taken, by_jal, by_load_of, is_beq, is_lbu}
-use Rattle.rv_steps.proofs.Steps.{by_read}
-use Rattle.rv_steps.proofs.Words.{keeps_bytes, with_bytes_inside, with_bytes_outside}
+use Rattle.rv_runtime.specs.Steps.States.{at, put}
+use Rattle.rv_runtime.proofs.Steps.Operators.{by_branch_passed, by_branch_taken, by_jal, by_load_of, is_beq, is_lbu}
+use Rattle.rv_runtime.proofs.Steps.Steps.{by_read}
+use Rattle.rv_runtime.proofs.Steps.Words.{keeps_bytes, with_bytes_inside, with_bytes_outside}
 use Rattle.rv_code.specs.Code.{byte_at, give_code, read_code, steps_code}
 use Rattle.rv_runtime.specs.Routines.{data_place}
 use Rattle.tac_ir.specs.Running.{Next, put_any, with_temp}

@@ -23,10 +23,10 @@ use Rattle.rv_isa.specs.Arithmetic.{plus}
 use Rattle.rv_isa.specs.Events.{code_address, stores_at}
 use Rattle.rv_isa.specs.Memory as M
 use Rattle.rv_isa.specs.Memory.{are_mapped, word_at, with_word, writable}
-use Rattle.rv_steps.specs.States.{Code, Keeps, Stands, at, put}
-use Rattle.rv_steps.proofs.Operators.{by_store_of}
-use Rattle.rv_steps.proofs.Registers.{put_other}
-use Rattle.rv_steps.proofs.Words.{word_fits, word_same}
+use Rattle.rv_runtime.specs.Steps.States.{Code, Keeps, Stands, at, put}
+use Rattle.rv_runtime.proofs.Steps.Operators.{by_store_of}
+use Rattle.rv_runtime.proofs.Steps.Registers.{put_other}
+use Rattle.rv_runtime.proofs.Steps.Words.{word_fits, word_same}
 use Rattle.rv_code.specs.Code.{give_code, is_block, parameters_code, steps_code}
 use Rattle.rv_code.specs.Frames.{block_places, block_sizes, frame_size, slot_at, slots}
 use Rattle.rv_code.specs.Words.{fetch_code, keep_code, lower, store_by, upper}

@@ -18,8 +18,8 @@ use Rattle.rv_isa.specs.Arithmetic.{product}
 use Rattle.rv_isa.specs.Memory.{with_word}
 use Rattle.rv_isa.specs.Events.{MachineEvent, Request, Reply, entered, malloc_entry, calloc_entry}
 use Rattle.rv_isa.specs.Step.{State}
-use Rattle.rv_steps.specs.States.{at, put}
-use Rattle.rv_steps.proofs.Operators.{by_binary, is_mul}
+use Rattle.rv_runtime.specs.Steps.States.{at, put}
+use Rattle.rv_runtime.proofs.Steps.Operators.{by_binary, is_mul}
 use Rattle.rv_runtime.specs.Effects.{Heap}
 use Rattle.rv_runtime.specs.Laws.{ComesBack, Entered}
 use Rattle.rv_runtime.specs.Routines.{data_place, head, taken}

@@ -16,9 +16,9 @@ use Rattle.rv_isa.specs.declared.instruction.Inst.TheVariants.{Add, Addi, Ecall,
 use Rattle.rv_isa.specs.Arithmetic.{plus}
 use Rattle.rv_isa.specs.Memory.{word_at}
 use Rattle.rv_isa.specs.Step.{Ends, Exits}
-use Rattle.rv_steps.specs.States.{at, put}
-use Rattle.rv_steps.proofs.Operators.{by_jalr}
-use Rattle.rv_steps.proofs.Steps.{exit_ends}
+use Rattle.rv_runtime.specs.Steps.States.{at, put}
+use Rattle.rv_runtime.proofs.Steps.Operators.{by_jalr}
+use Rattle.rv_runtime.proofs.Steps.Steps.{exit_ends}
 use Rattle.tac_ir.specs.Running.{Caller, Next, returns}
 use Rattle.tac_ir.specs.declared.step.Operand.{Operand}
 use Rattle.tac_ir.specs.declared.step.Step.TheVariants as S

@@ -11,8 +11,8 @@ use Rattle.rv_isa.specs.Events.{MachineEvent, events, events_then, step_events}
 use Rattle.rv_isa.specs.Run.{after, run}
 use Rattle.rv_isa.specs.Step.{State, Standing, Running, Ends, Exits, Goes, step}
 use Rattle.rv_isa.proofs.Runs.{events_goes, run_goes}
-use Rattle.rv_steps.specs.States.{IsBackward, later}
-use Rattle.rv_steps.proofs.Reaching.{later_both}
+use Rattle.rv_runtime.specs.Steps.States.{IsBackward, later}
+use Rattle.rv_runtime.proofs.Steps.Reaching.{later_both}
 use Rattle.rv_code.specs.Code.{steps_code}
 use Rattle.tac_ir.specs.Running.{Next, go, no_place}
 use Rattle.tac_ir.specs.declared.step.Row.{Row}

@@ -19,8 +19,8 @@ use Rattle.block_memory.specs.declared.run_worlds.value.Value.TheVariants.{Point
 use Rattle.c_meaning.specs.declared.frame.Slot.TheVariants.{ByName as by_name}
 use Rattle.rv_isa.specs.Memory as M
 use Rattle.rv_isa.specs.Memory.{are_mapped, writable}
-use Rattle.rv_steps.specs.States.{at, code_end, put}
-use Rattle.rv_steps.proofs.Ranges.{mapped_each}
+use Rattle.rv_runtime.specs.Steps.States.{at, code_end, put}
+use Rattle.rv_runtime.proofs.Steps.Ranges.{mapped_each}
 use Rattle.rv_runtime.specs.Effects.{Filled}
 use Rattle.rv_runtime.specs.Laws.{Entered}
 use Rattle.rv_runtime.specs.Routines.{fill_entry}

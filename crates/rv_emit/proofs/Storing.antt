@@ -17,8 +17,8 @@ use Rattle.rv_isa.specs.declared.instruction.Inst.{Inst}
 use Rattle.rv_isa.specs.Events.{MachineEvent, Store, stores_at}
 use Rattle.rv_isa.specs.Memory as M
 use Rattle.rv_isa.specs.Memory.{word_at}
-use Rattle.rv_steps.specs.States.{Keeps, at, later}
-use Rattle.rv_steps.proofs.Operators.{by_store_of}
+use Rattle.rv_runtime.specs.Steps.States.{Keeps, at, later}
+use Rattle.rv_runtime.proofs.Steps.Operators.{by_store_of}
 use Rattle.tac_ir.specs.Running.{Next}
 use Rattle.tac_ir.specs.declared.step.Operand.{Operand}
 use Rattle.tac_ir.specs.declared.step.Step.TheVariants as S

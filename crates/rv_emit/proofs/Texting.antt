@@ -13,8 +13,8 @@ use Rattle.c_meaning.specs.declared.frame.Slot.{Slot}
 use Rattle.c_meaning.specs.declared.frame.Slot.TheVariants.{ByName as by_name, InBlock as in_block}
 use Rattle.rv_isa.specs.Memory as M
 use Rattle.rv_isa.specs.Memory.{are_mapped, readable}
-use Rattle.rv_steps.specs.States.{Keeps, put}
-use Rattle.rv_steps.proofs.Ranges.{mapped_each}
+use Rattle.rv_runtime.specs.Steps.States.{Keeps, put}
+use Rattle.rv_runtime.proofs.Steps.Ranges.{mapped_each}
 use Rattle.rv_runtime.specs.Effects.{Copied}
 use Rattle.rv_runtime.specs.Routines.{copy_entry}
 use Rattle.rv_code.specs.Code.{block_code, is_block, steps_code}

@@ -19,9 +19,9 @@ use Rattle.rv_isa.specs.declared.instruction.Inst.{Inst}
 use Rattle.rv_isa.specs.Memory as M
 use Rattle.rv_isa.specs.Memory.{word_at}
 use Rattle.rv_isa.specs.Events.{code_address}
-use Rattle.rv_steps.specs.States.{put, at}
-use Rattle.rv_steps.proofs.Words.{word_fits}
-use Rattle.rv_steps.proofs.Registers.{put_other}
+use Rattle.rv_runtime.specs.Steps.States.{put, at}
+use Rattle.rv_runtime.proofs.Steps.Words.{word_fits}
+use Rattle.rv_runtime.proofs.Steps.Registers.{put_other}
 use Rattle.tac_ir.specs.Running.{Next, held, read, with_temp}
 use Rattle.tac_ir.specs.declared.step.Operand.{Operand}
 use Rattle.tac_ir.specs.declared.step.Operand.TheVariants as O

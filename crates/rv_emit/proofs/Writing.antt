@@ -14,10 +14,10 @@ use Rattle.rv_isa.specs.declared.instruction.Inst.{Inst}
 use Rattle.rv_isa.specs.declared.instruction.Inst.TheVariants.{Lbu, Sb}
 use Rattle.rv_isa.specs.Arithmetic.{plus}
 use Rattle.rv_isa.specs.Memory.{bytes_at, with_byte}
-use Rattle.rv_steps.specs.States.{at, put}
-use Rattle.rv_steps.proofs.Operators.{by_load_of, by_store_of, is_lbu, is_sb}
-use Rattle.rv_steps.proofs.Steps.{by_write}
-use Rattle.rv_steps.proofs.Words.{bytes_at_one, keeps_byte, with_byte_other, with_byte_same}
+use Rattle.rv_runtime.specs.Steps.States.{at, put}
+use Rattle.rv_runtime.proofs.Steps.Operators.{by_load_of, by_store_of, is_lbu, is_sb}
+use Rattle.rv_runtime.proofs.Steps.Steps.{by_write}
+use Rattle.rv_runtime.proofs.Steps.Words.{bytes_at_one, keeps_byte, with_byte_other, with_byte_same}
 use Rattle.rv_code.specs.Code.{byte_at, give_code, one_code, steps_code, write_code}
 use Rattle.rv_runtime.specs.Routines.{data_place}
 use Rattle.tac_ir.specs.Running.{Next, put_any, with_temp}

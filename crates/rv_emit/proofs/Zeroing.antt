@@ -8,8 +8,8 @@ use Rattle.block_memory.specs.Lifetimes.{with_end}
 use Rattle.c_meaning.specs.declared.frame.Slot.TheVariants.{InBlock as in_block}
 use Rattle.rv_isa.specs.Memory as M
 use Rattle.rv_isa.specs.Memory.{are_mapped, word_at, writable}
-use Rattle.rv_steps.specs.States.{Keeps, at}
-use Rattle.rv_steps.proofs.Words.{word_same}
+use Rattle.rv_runtime.specs.Steps.States.{Keeps, at}
+use Rattle.rv_runtime.proofs.Steps.Words.{word_same}
 use Rattle.rv_code.specs.Frames.{block_sizes, slot_at, slots}
 use Rattle.rv_emit.specs.Maps.{Extent, Flat, Shows}
 use Rattle.rv_emit.specs.Grounds.{Ground}

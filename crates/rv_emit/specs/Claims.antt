@@ -8,7 +8,7 @@ use Rattle.block_memory.specs.RunWorlds.Worlds.{World, End, ends, goes_on, undef
 use Rattle.rv_isa.specs.Step.{State, Ends, Running, Exits, step}
 use Rattle.rv_isa.specs.Run.{run}
 use Rattle.rv_isa.specs.Events.{MachineEvent, events, heap_start}
-use Rattle.rv_steps.specs.States.{at, later, IsBackward}
+use Rattle.rv_runtime.specs.Steps.States.{at, later, IsBackward}
 use Rattle.block_memory.specs.declared.run_worlds.value.Value.{Value}
 use Rattle.rv_code.specs.Code.{stack_place, steps_code}
 use Rattle.rv_code.specs.declared.layout.Layout.{Layout}

@@ -14,7 +14,7 @@ use Rattle.rv_isa.specs.declared.instruction.Inst.TheVariants.{Addi, Ecall}
 use Rattle.rv_isa.specs.Memory as M
 use Rattle.rv_isa.specs.Memory.{word_at}
 use Rattle.rv_isa.specs.Events.{MachineEvent, Request, Reply, Release, Load, Store, code_address}
-use Rattle.rv_steps.specs.States.{code_end, Code as Stand, Keeps}
+use Rattle.rv_runtime.specs.Steps.States.{code_end, Code as Stand, Keeps}
 use Rattle.tac_ir.specs.Code.{Code, RoutineData, led}
 use Rattle.tac_ir.specs.Jumps.{LeadsInside}
 use Rattle.tac_ir.specs.Running.{Caller}

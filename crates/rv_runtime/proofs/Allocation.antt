@@ -9,11 +9,11 @@ use Rattle.rv_isa.specs.Arithmetic.{plus}
 use Rattle.rv_isa.specs.Memory.{Memory, readable, word_at, with_word}
 use Rattle.rv_isa.specs.Step.{State}
 use Rattle.rv_isa.specs.Events.{heap_start, MachineEvent, Reply, malloc_entry, calloc_entry}
-use Rattle.rv_steps.specs.States.{put, at, IsBackward, Code, Keeps}
-use Rattle.rv_steps.proofs.Ranges.{mapped_part}
-use Rattle.rv_steps.proofs.Registers.{put_other}
-use Rattle.rv_steps.proofs.Routines.{by_routine, puts_inside, loads_inside, stores_inside, jumps_inside}
-use Rattle.rv_steps.proofs.Words.{keeps_word, word_again, word_apart, word_same}
+use Rattle.rv_runtime.specs.Steps.States.{put, at, IsBackward, Code, Keeps}
+use Rattle.rv_runtime.proofs.Steps.Ranges.{mapped_part}
+use Rattle.rv_runtime.proofs.Steps.Registers.{put_other}
+use Rattle.rv_runtime.proofs.Steps.Routines.{by_routine, puts_inside, loads_inside, stores_inside, jumps_inside}
+use Rattle.rv_runtime.proofs.Steps.Words.{keeps_word, word_again, word_apart, word_same}
 use Rattle.rv_runtime.specs.Bytes.{Runtime}
 use Rattle.rv_runtime.specs.Effects.{Leaves, Returns, Heap}
 use Rattle.rv_runtime.specs.Laws.{BlocksFit}

@@ -9,9 +9,9 @@ use Rattle.rv_isa.specs.Arithmetic.{plus}
 use Rattle.rv_isa.specs.Memory.{Memory, readable, word_at}
 use Rattle.rv_isa.specs.Step.{State}
 use Rattle.rv_isa.specs.Events.{MachineEvent, malloc_entry, calloc_entry}
-use Rattle.rv_steps.specs.States.{put, at, IsBackward, Code, Keeps, Stands}
-use Rattle.rv_steps.proofs.Ranges.{mapped_part}
-use Rattle.rv_steps.proofs.Routines.{by_routine, puts_inside, loads_inside}
+use Rattle.rv_runtime.specs.Steps.States.{put, at, IsBackward, Code, Keeps, Stands}
+use Rattle.rv_runtime.proofs.Steps.Ranges.{mapped_part}
+use Rattle.rv_runtime.proofs.Steps.Routines.{by_routine, puts_inside, loads_inside}
 use Rattle.rv_runtime.specs.Bytes.{Runtime}
 use Rattle.rv_runtime.specs.Effects.{Returns, Heap, NoRoom}
 use Rattle.rv_runtime.specs.Routines.{taken, data_place, allocate_entry, allocate_code}

@@ -9,10 +9,10 @@ use Rattle.rv_isa.specs.Arithmetic.{plus, one_if, difference}
 use Rattle.rv_isa.specs.Memory.{Memory, readable, are_mapped}
 use Rattle.rv_isa.specs.Step.{State}
 use Rattle.rv_isa.specs.Events.{MachineEvent}
-use Rattle.rv_steps.specs.States.{put, at, IsBackward, Keeps}
-use Rattle.rv_steps.proofs.Ranges.{mapped_part}
-use Rattle.rv_steps.proofs.Registers.{put_other}
-use Rattle.rv_steps.proofs.Routines.{by_routine, puts_inside, loads_inside}
+use Rattle.rv_runtime.specs.Steps.States.{put, at, IsBackward, Keeps}
+use Rattle.rv_runtime.proofs.Steps.Ranges.{mapped_part}
+use Rattle.rv_runtime.proofs.Steps.Registers.{put_other}
+use Rattle.rv_runtime.proofs.Steps.Routines.{by_routine, puts_inside, loads_inside}
 use Rattle.rv_runtime.specs.Bytes.{Runtime}
 use Rattle.rv_runtime.specs.Effects.{Leaves, Returns, compared}
 use Rattle.rv_runtime.specs.Routines.{compare_entry}

@@ -9,11 +9,11 @@ use Rattle.rv_isa.specs.Arithmetic.{plus}
 use Rattle.rv_isa.specs.Memory.{Memory, readable, writable, are_mapped, with_byte}
 use Rattle.rv_isa.specs.Step.{State}
 use Rattle.rv_isa.specs.Events.{MachineEvent}
-use Rattle.rv_steps.specs.States.{put, at, IsBackward, code_end, Keeps}
-use Rattle.rv_steps.proofs.Ranges.{mapped_part}
-use Rattle.rv_steps.proofs.Registers.{put_other}
-use Rattle.rv_steps.proofs.Routines.{by_routine, puts_inside, loads_inside, stores_inside}
-use Rattle.rv_steps.proofs.Words.{keeps_byte, with_byte_same, with_byte_other}
+use Rattle.rv_runtime.specs.Steps.States.{put, at, IsBackward, code_end, Keeps}
+use Rattle.rv_runtime.proofs.Steps.Ranges.{mapped_part}
+use Rattle.rv_runtime.proofs.Steps.Registers.{put_other}
+use Rattle.rv_runtime.proofs.Steps.Routines.{by_routine, puts_inside, loads_inside, stores_inside}
+use Rattle.rv_runtime.proofs.Steps.Words.{keeps_byte, with_byte_same, with_byte_other}
 use Rattle.rv_runtime.specs.Bytes.{Runtime}
 use Rattle.rv_runtime.specs.Effects.{Leaves, Returns, Copied}
 use Rattle.rv_runtime.specs.Routines.{copy_entry}

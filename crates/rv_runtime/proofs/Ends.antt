@@ -6,9 +6,9 @@ use Rattle.rv_isa.specs.Arithmetic.{plus}
 use Rattle.rv_isa.specs.Memory.{Memory}
 use Rattle.rv_isa.specs.Step.{State, Ends, Exits, step}
 use Rattle.rv_isa.specs.Events.{MachineEvent, code_address, free_entry}
-use Rattle.rv_steps.specs.States.{put, at, IsBackward, Keeps}
-use Rattle.rv_steps.proofs.Routines.{by_routine, puts_inside}
-use Rattle.rv_steps.proofs.Steps.{exit_ends}
+use Rattle.rv_runtime.specs.Steps.States.{put, at, IsBackward, Keeps}
+use Rattle.rv_runtime.proofs.Steps.Routines.{by_routine, puts_inside}
+use Rattle.rv_runtime.proofs.Steps.Steps.{exit_ends}
 use Rattle.rv_runtime.specs.Bytes.{Runtime}
 use Rattle.rv_runtime.specs.Effects.{Returns}
 use Rattle.rv_runtime.specs.Routines.{start_entry, exit_entry}

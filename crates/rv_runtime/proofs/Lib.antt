@@ -1,3 +1,4 @@
+pub mod Steps
 pub mod Lists
 pub mod Standing
 pub mod Returning

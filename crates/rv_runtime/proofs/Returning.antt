@@ -8,9 +8,9 @@ use Rattle.rv_isa.specs.Decoding.{decoded}
 use Rattle.rv_isa.specs.Memory.{Memory, word_at}
 use Rattle.rv_isa.specs.Step.{State, Goes, executed}
 use Rattle.rv_isa.specs.Events.{MachineEvent, Reply, step_events, entered, returned, accessed, is_code, code_address, malloc_return, calloc_return}
-use Rattle.rv_steps.specs.States.{at, IsBackward, Stands, Keeps}
-use Rattle.rv_steps.proofs.Steps.{step_is}
-use Rattle.rv_steps.proofs.Routines.{is_inside, jumps_inside}
+use Rattle.rv_runtime.specs.Steps.States.{at, IsBackward, Stands, Keeps}
+use Rattle.rv_runtime.proofs.Steps.Steps.{step_is}
+use Rattle.rv_runtime.proofs.Steps.Routines.{is_inside, jumps_inside}
 use Rattle.rv_runtime.specs.Routines.{return_code}
 use Rattle.rv_runtime.specs.Effects.{Leaves, Returns}
 

@@ -11,8 +11,8 @@ use Rattle.rv_isa.specs.Encoding.{encoding, IsInRange}
 use Rattle.rv_isa.specs.Memory.{Memory, executable, readable, writable, are_mapped, word_at}
 use Rattle.rv_isa.specs.Events.{heap_start}
 use Rattle.rv_isa.proofs.Laws.{encoding_fits}
-use Rattle.rv_steps.specs.States.{Code, Stands}
-use Rattle.rv_steps.proofs.Ranges.{mapped_part}
+use Rattle.rv_runtime.specs.Steps.States.{Code, Stands}
+use Rattle.rv_runtime.proofs.Steps.Ranges.{mapped_part}
 use Rattle.rv_runtime.specs.Bytes.{zeros, bytes_of, open_page, page, words_of, runtime_bytes, data_bytes, Holds, Runtime}
 use Rattle.rv_runtime.specs.Effects.{Heap}
 use Rattle.rv_runtime.specs.Routines.{return_code, start_entry, start_code, exit_code, malloc_code, calloc_code, free_code, copy_code, fill_code, compare_code}

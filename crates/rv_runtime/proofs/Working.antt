@@ -5,9 +5,9 @@ use Rattle.rv_isa.specs.declared.instruction.Inst.TheVariants.{Ebreak}
 use Rattle.rv_isa.specs.Events.{MachineEvent, Reply, code_address, malloc_entry, calloc_entry, free_entry, events}
 use Rattle.rv_isa.specs.Memory.{Memory, with_word}
 use Rattle.rv_isa.specs.Step.{State, Ends, Break, step}
-use Rattle.rv_steps.specs.States.{put, at, later, Keeps, Leads, Reaches, Stands}
-use Rattle.rv_steps.proofs.Reaching.{in_order, reached, reaching}
-use Rattle.rv_steps.proofs.Steps.{break_ends}
+use Rattle.rv_runtime.specs.Steps.States.{put, at, later, Keeps, Leads, Reaches, Stands}
+use Rattle.rv_runtime.proofs.Steps.Reaching.{in_order, reached, reaching}
+use Rattle.rv_runtime.proofs.Steps.Steps.{break_ends}
 use Rattle.rv_runtime.specs.Effects.{Leaves, Copied, Filled, compared}
 use Rattle.rv_runtime.specs.Laws.{Entered, ComesBack, Breaks, MallocGives, CallocGives, MallocBreaks, CallocBreaks, FreeDoesNothing, CopyCopies}
 use Rattle.rv_runtime.specs.Laws.{FillFills, CompareAnswers, RoutinesDo, StartLeads, ExitEnds}

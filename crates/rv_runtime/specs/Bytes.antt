@@ -6,7 +6,7 @@ use Rattle.rv_isa.specs.declared.instruction.Inst.{Inst}
 use Rattle.rv_isa.specs.Encoding.{encoding}
 use Rattle.rv_isa.specs.Events.{malloc_entry, malloc_return, calloc_entry, calloc_return, free_entry, heap_start}
 use Rattle.rv_isa.specs.Memory.{Memory}
-use Rattle.rv_steps.specs.States.{Code, Stands}
+use Rattle.rv_runtime.specs.Steps.States.{Code, Stands}
 use Rattle.rv_runtime.specs.Routines.{start_entry, exit_entry, free_return, copy_entry, copy_return, fill_entry, fill_return, compare_entry, compare_return}
 use Rattle.rv_runtime.specs.Routines.{return_code, start_code, exit_code, malloc_code, calloc_code, free_code, copy_code, fill_code, compare_code}
 

@@ -4,7 +4,7 @@ use Rattle.rv_isa.specs.declared.image.Segment.{Segment}
 use Rattle.rv_isa.specs.Events.{MachineEvent, Reply, code_address, malloc_entry, calloc_entry, free_entry, heap_start}
 use Rattle.rv_isa.specs.Memory.{Memory, executable, readable, writable, are_mapped, with_word}
 use Rattle.rv_isa.specs.Step.{Ends, Exits, Break, step}
-use Rattle.rv_steps.specs.States.{put, at, code_end, Keeps, Leads}
+use Rattle.rv_runtime.specs.Steps.States.{put, at, code_end, Keeps, Leads}
 use Rattle.rv_runtime.specs.Bytes.{runtime_bytes, data_bytes, Holds, Runtime}
 use Rattle.rv_runtime.specs.Effects.{Leaves, Returns, Heap, NoRoom, Copied, Filled, compared}
 use Rattle.rv_runtime.specs.Routines.{start_entry, exit_entry, copy_entry, fill_entry, compare_entry, data_place, head, taken}

@@ -1,3 +1,4 @@
+pub mod Steps
 pub mod Routines
 pub mod Bytes
 pub mod Effects

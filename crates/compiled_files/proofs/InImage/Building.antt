@@ -6,7 +6,7 @@ use Rattle.std.proofs.lemmas.Bool.{cases_lt}
 use Rattle.std.proofs.lemmas.List.Elements.{All-drop}
 use Rattle.rv_isa.specs.Events.{code_address}
 use Rattle.rv_isa.specs.declared.instruction.Inst.{Inst}
-use Rattle.rv_steps.specs.States.{code_end}
+use Rattle.rv_runtime.specs.Steps.States.{code_end}
 use Rattle.c_typed.specs.Programs.{ProgramData}
 use Rattle.tac_ir.specs.Code.{Code, RoutineData, left, led}
 use Rattle.tac_ir.specs.Jumps.{IsInside, LeadsInside}

@@ -2,7 +2,7 @@
 use Rattle.std.proofs.Common.{◌≡◌, ℕ, zero, suc, ◌+◌, ◌*◌, ◌%◌, ◌<◌, ◌≤◌, List, [], ◌∷◌, Some, length, map, ap, subst, arith}
 use Rattle.std.specs.Prelude.{Contains, slice_get, slice_index}
 use Rattle.std.proofs.lemmas.List.Elements.{Contains-append_left, Contains-append_right}
-use Rattle.rv_steps.specs.States.{Code as Stand}
+use Rattle.rv_runtime.specs.Steps.States.{Code as Stand}
 use Rattle.tac_ir.specs.Code.{RoutineData}
 use Rattle.rv_code.specs.Code.{function_code}
 use Rattle.rv_code.specs.Frames.{whole_words, places_from}

@@ -10,7 +10,7 @@ use Rattle.rv_isa.specs.declared.instruction.Inst.{Inst}
 use Rattle.rv_isa.specs.Encoding.{IsInRange}
 use Rattle.rv_isa.specs.Events.{code_address}
 use Rattle.rv_isa.specs.Memory.{Memory, readable, writable, are_mapped, initial_memory}
-use Rattle.rv_steps.specs.States.{Code as Stand, code_end}
+use Rattle.rv_runtime.specs.Steps.States.{Code as Stand, code_end}
 use Rattle.rv_runtime.specs.Bytes.{Holds, bytes_of, runtime_bytes, words_of}
 use Rattle.rv_runtime.specs.Routines.{data_place}
 use Rattle.rv_runtime.proofs.Standing.{holds_back, holds_front, runtime_stands}

@@ -3,7 +3,7 @@ use Rattle.std.proofs.Common.{◌≡◌, ℕ, ◌+◌, ◌-◌, ◌*◌, ◌%◌
 use Rattle.std.proofs.Common.{ap, sym, ◌∙◌, subst, arith, append_assoc, length-append}
 use Rattle.std.specs.Prelude.{slice_index}
 use Rattle.std.proofs.lemmas.List.{length-drop, length-reverse, reverse-append, take-append-drop}
-use Rattle.rv_steps.specs.States.{Code}
+use Rattle.rv_runtime.specs.Steps.States.{Code}
 use Rattle.tac_ir.specs.Code.{RoutineData, left}
 use Rattle.tac_ir.specs.Jumps.{IsInside}
 use Rattle.tac_ir.specs.declared.step.Step.{Step}

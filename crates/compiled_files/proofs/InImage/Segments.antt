@@ -8,7 +8,7 @@ use Rattle.rv_image.specs.Images.{end_of_room, full_segment, room_segment}
 use Rattle.rv_isa.specs.declared.image.Segment.{Segment}
 use Rattle.rv_isa.specs.Memory.{executable, is_in, are_mapped, initial_memory}
 use Rattle.rv_isa.specs.Events.{is_heap, loads_at, stores_at, Load, Store}
-use Rattle.rv_steps.proofs.Ranges.{mapped_each}
+use Rattle.rv_runtime.proofs.Steps.Ranges.{mapped_each}
 use Rattle.rv_runtime.specs.Bytes.{Holds}
 
 -- ---- one segment

@@ -8,7 +8,7 @@ use Rattle.rv_isa.specs.declared.instruction.Inst.{Inst}
 use Rattle.rv_isa.specs.Encoding.{encoding, IsInRange}
 use Rattle.rv_isa.specs.Memory.{Memory, executable, are_mapped, word_at}
 use Rattle.rv_isa.proofs.Laws.{encoding_fits}
-use Rattle.rv_steps.specs.States.{Code, code_end}
+use Rattle.rv_runtime.specs.Steps.States.{Code, code_end}
 use Rattle.rv_runtime.specs.Bytes.{Holds, bytes_of, words_of}
 use Rattle.rv_runtime.proofs.Standing.{holds_back, holds_front}
 

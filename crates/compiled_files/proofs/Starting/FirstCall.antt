@@ -10,9 +10,9 @@ use Rattle.rv_isa.specs.Arithmetic.{difference, plus}
 use Rattle.rv_isa.specs.Events.{MachineEvent, code_address}
 use Rattle.rv_isa.specs.Memory as M
 use Rattle.rv_isa.specs.Memory.{with_word}
-use Rattle.rv_steps.specs.States.{at, put}
-use Rattle.rv_steps.proofs.Operators.{by_binary, by_branch_taken, is_bgeu, is_sub}
-use Rattle.rv_steps.proofs.Words.{keeps_word, word_again}
+use Rattle.rv_runtime.specs.Steps.States.{at, put}
+use Rattle.rv_runtime.proofs.Steps.Operators.{by_binary, by_branch_taken, is_bgeu, is_sub}
+use Rattle.rv_runtime.proofs.Steps.Words.{keeps_word, word_again}
 use Rattle.rv_code.specs.Code.{a_word, entry_code, is_block, parameters_code, stack_place, steps_code}
 use Rattle.rv_code.specs.Frames.{block_places, block_sizes, slot_at, slots}
 use Rattle.rv_code.specs.Words.{keep_code, number_code}

@@ -3,7 +3,7 @@ use Rattle.std.proofs.Common.{◌≡◌, ℕ, ◌+◌, ◌*◌, ◌/◌, ◌%◌
 use Rattle.rv_isa.specs.declared.instruction.Inst.TheVariants.{Lui}
 use Rattle.rv_isa.specs.Events.{code_address}
 use Rattle.rv_isa.specs.Memory.{Memory}
-use Rattle.rv_steps.specs.States.{Code, Keeps, put}
+use Rattle.rv_runtime.specs.Steps.States.{Code, Keeps, put}
 use Rattle.rv_code.specs.Words.{call_code}
 use Rattle.rv_runtime.specs.Routines.{start_entry}
 use Rattle.rv_runtime.proofs.Ends.{start_works}

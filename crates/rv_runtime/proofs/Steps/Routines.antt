@@ -10,9 +10,9 @@ use Rattle.rv_isa.specs.Memory.{Memory, readable, writable, are_mapped, word_at}
 use Rattle.rv_isa.specs.Step.{State, register, Stepped, Goes, executed, accesses, writes, branches, traps}
 use Rattle.rv_isa.specs.Events.{MachineEvent, Reply, step_events, entered, returned, accessed, is_code, malloc_return, calloc_return}
 use Rattle.lay_base.specs.declared.faults.TrapKind.TheVariants.{Jump}
-use Rattle.rv_steps.specs.States.{put, at, IsBackward, Stands, Keeps}
-use Rattle.rv_steps.proofs.Registers.{written}
-use Rattle.rv_steps.proofs.Steps.{step_is}
+use Rattle.rv_runtime.specs.Steps.States.{put, at, IsBackward, Stands, Keeps}
+use Rattle.rv_runtime.proofs.Steps.Registers.{written}
+use Rattle.rv_runtime.proofs.Steps.Steps.{step_is}
 
 -- the place lies below compiled code and is no return word of an allocation. Of a place that is written out this holds by computation
 abbrev pub is_inside : ℕ → Bool

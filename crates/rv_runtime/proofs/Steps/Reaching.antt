@@ -4,7 +4,7 @@ use Rattle.rv_isa.specs.declared.image.Segment.{Segment}
 use Rattle.rv_isa.specs.Step.{State, Goes, step}
 use Rattle.rv_isa.specs.Events.{MachineEvent, step_events, events, events_then}
 use Rattle.rv_isa.specs.Run.{state_after, state_then}
-use Rattle.rv_steps.specs.States.{later, IsBackward, Reaches}
+use Rattle.rv_runtime.specs.Steps.States.{later, IsBackward, Reaches}
 
 pub later_both : (a b before : List MachineEvent) → later (a ++ b) before ≡ later b (later a before)
 later_both [] b before = refl

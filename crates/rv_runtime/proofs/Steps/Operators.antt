@@ -11,9 +11,9 @@ use Rattle.rv_isa.specs.Arithmetic.{shifted_right, shifted_right_signed, quotien
 use Rattle.rv_isa.specs.Memory.{Memory, readable, writable, are_mapped, half_at, word_at, with_byte, with_half, with_word}
 use Rattle.rv_isa.specs.Step.{State, register, executed, accesses, writes, stores, branches}
 use Rattle.rv_isa.specs.Events.{MachineEvent, accessed, loads_at, stores_at, code_address}
-use Rattle.rv_steps.specs.States.{put, at, later, IsBackward, Stands, Keeps}
-use Rattle.rv_steps.proofs.Registers.{register_is}
-use Rattle.rv_steps.proofs.Steps.{by_put, by_load, by_store, by_taken, by_passed, by_jump, linked}
+use Rattle.rv_runtime.specs.Steps.States.{put, at, later, IsBackward, Stands, Keeps}
+use Rattle.rv_runtime.proofs.Steps.Registers.{register_is}
+use Rattle.rv_runtime.proofs.Steps.Steps.{by_put, by_load, by_store, by_taken, by_passed, by_jump, linked}
 
 -- ---- operators on two registers
 

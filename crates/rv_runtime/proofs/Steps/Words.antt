@@ -2,7 +2,7 @@
 use Rattle.std.proofs.Common.{◌≡◌, ℕ, ◌+◌, ◌*◌, ◌/◌, ◌%◌, ◌^◌, ◌<◌, ◌≤◌, ◌≢◌, ◌⊎◌, inl, inr, Bool, cond, ◌&&◌, leb, ltb, List, [], ◌∷◌, length, slice_index, ◌-◌, refl, ap, ◌∙◌, eq-eqb, ne_eqb, le-leb, lt-ltb, le-ltb, arith}
 use Rattle.std.proofs.lemmas.Bool.{cases_eq, cond_both, and_right, lt-leb}
 use Rattle.rv_isa.specs.Memory.{Memory, half_at, word_at, with_byte, with_half, with_word, bytes_at, with_bytes}
-use Rattle.rv_steps.specs.States.{Keeps, code_end}
+use Rattle.rv_runtime.specs.Steps.States.{Keeps, code_end}
 
 pub with_byte_same : (memory : Memory) (a v : ℕ) → with_byte memory a v a ≡ v % 2 ^ 8
 with_byte_same memory a v = rw (eq-eqb a a refl) refl

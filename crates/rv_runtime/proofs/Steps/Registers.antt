@@ -3,7 +3,7 @@ use Rattle.std.proofs.Common.{◌≡◌, ℕ, zero, suc, ◌+◌, ◌<◌, ◌�
 use Rattle.std.proofs.Common.{inl, inr}
 use Rattle.std.proofs.lemmas.Bool.{cases_eq}
 use Rattle.rv_isa.specs.Step.{with_register}
-use Rattle.rv_steps.specs.States.{registers_of, put}
+use Rattle.rv_runtime.specs.Steps.States.{registers_of, put}
 
 pub put_same : (f : ℕ → ℕ) (r v q : ℕ) → q ≡ r → put f r v q ≡ v
 put_same f r v q e = rw (eq-eqb q r e) refl

@@ -13,9 +13,9 @@ use Rattle.rv_isa.specs.Events.{MachineEvent, step_events, entered, returned, ac
 use Rattle.rv_isa.specs.Events.{calloc_entry, free_entry}
 use Rattle.rv_isa.proofs.Laws.{decoded_again}
 use Rattle.lay_base.specs.declared.faults.TrapKind.TheVariants.{Unmapped, Jump, Call}
-use Rattle.rv_steps.specs.States.{put, at, later, IsBackward, Stands, Keeps}
-use Rattle.rv_steps.proofs.Words.{word_same}
-use Rattle.rv_steps.proofs.Registers.{written}
+use Rattle.rv_runtime.specs.Steps.States.{put, at, later, IsBackward, Stands, Keeps}
+use Rattle.rv_runtime.proofs.Steps.Words.{word_same}
+use Rattle.rv_runtime.proofs.Steps.Registers.{written}
 
 -- ---- a step is what stands there
 
