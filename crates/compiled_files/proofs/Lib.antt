@@ -5,5 +5,5 @@ pub mod Events
 pub mod Room
 pub mod Weighed
 pub mod Agreeing
-pub mod Compiled
+pub mod Composed
 pub mod Theorem

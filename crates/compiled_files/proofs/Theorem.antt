@@ -16,7 +16,7 @@ use Rattle.tac_runs.specs.Laws.{EarlierFits, LightRunsFit, RunsAdd, StepsAdd}
 use Rattle.tac_runs.specs.Room.{AllocationHasRoom, AreWithin, CallHasRoom}
 use Rattle.compiled_files.specs.Laws.{ImageIsOfProgram}
 use Rattle.compiled_files.specs.Sound.{IsSound}
-use Rattle.compiled_files.proofs.Compiled.{file_is}
+use Rattle.compiled_files.proofs.Composed.{file_is}
 use Rattle.compiled_files.proofs.Room.{frame_in}
 use Rattle.compiled_files.proofs.Soundness.Sound.{sound}
 use Rattle.compiled_files.proofs.Starting.Bytes.{memory_holds_bytes}

@@ -5,11 +5,11 @@
 //! does by its meaning (`Agrees`), and with the heap just what the program does (`Real`).
 //!
 //! `proofs/Soundness` shows that the code of a program of files is such as the laws of emission ask for (`IsSound`), `InImage` that it stands in the image,
-//! `Starting` how the machine comes from its first state to the first step of `main`, and `Compiled.antt` puts them together.
+//! `Starting` how the machine comes from its first state to the first step of `main`, and `Composed.antt` and `Theorem.antt` put them together.
 #![tactic(auto)]
 
-mod compiled;
 mod laws;
+mod stages;
 
-pub use compiled::compiled;
 pub use laws::images_are_of_programs;
+pub use stages::compiled;

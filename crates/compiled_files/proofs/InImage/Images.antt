@@ -134,9 +134,9 @@ module _ (p : ProgramData) (t : Tac) (heap stack : ℕ) (fits : Fits p t) (heap_
       (recursion_from_All IsInRange code (code_in_range c stack (object_places p) (texts_at p) stack_high))
       (holds_back memory 0x00010000 0x1000 runtime_bytes (bytes_of (words_of code)) (runtime_long p c stack) all_bytes)
 
-  pub code_stands : Here ground (placed p (code_of t)) code_address code
+  pub program_here : Here ground (placed p (code_of t)) code_address code
   unfolding ground
-  code_stands = program_stands
+  program_here = program_stands
 
   module _ (steps : StepsAreAsLong) (functions : FunctionsAreAsLong) (programs : ProgramsAreAsLong) where
     code_ends : entries_end first_entry c.routines < code_end

@@ -1,6 +1,6 @@
 //! The file of a program.
 
-ghost use Rattle.std.specs.Prelude.{◌≡◌, ◌≤◌, IfOk, List as Sequence};
+ghost use Rattle.std.specs.Prelude.{◌≡◌, ◌≤◌, ◌<◌, ◌^◌, All, IfOk, List as Sequence};
 ghost use Rattle.c_link.specs.Programs.{IsProgramOf};
 ghost use Rattle.c_typed.specs.Programs.{program_data};
 ghost use Rattle.compiled_files.specs.Files.{IsFileOf};
@@ -13,6 +13,11 @@ use lay_base::NoMemory;
 use lower_tac::lower;
 use rv_image::image;
 use std::alloc::Global;
+
+/// A slice of bytes has bytes, which are numbers below 2^8.
+fn has_bytes(bytes: &[u8])
+    ensures { All (λ b. b < 2 ^ 8) bytes.now }
+{}
 
 /// The ELF file of a program of files, with so many MiB of heap, from 1 to 1024, and of stack, from 1 to 128. `NoMemory` comes for want of memory, and where
 /// `lower` or `image` gives it.
@@ -29,5 +34,6 @@ pub fn compiled(alloc: Global, p: &Typed, heap: u32, stack: u32) -> Result<Vec<u
     images_are_of_programs(p, &code);
     let image = image(alloc, p, &code, heap, stack)?;
     let elf = elf32::write(alloc, &image)?;
+    has_bytes(elf.as_slice());
     Ok(elf)
 }

@@ -41,6 +41,9 @@ module _ (p : ProgramData) (t : Tac) (heap stack : ℕ) (fits : Fits p t) (heap_
   room : ground.room ≡ room_of p c heap stack
   room = Images.ground_room p t heap stack fits heap_high stack_high
 
+  segments : ground.segments ≡ (image_of p c heap stack).segments
+  segments = Images.ground_segments p t heap stack fits heap_high stack_high
+
   built : IsBuilt ground (placed p c)
   built = Images.built p t heap stack fits heap_high stack_high steps functions programs sound
 
@@ -55,7 +58,7 @@ module _ (p : ProgramData) (t : Tac) (heap stack : ℕ) (fits : Fits p t) (heap_
     no_turn input = λ light. (0, omega arith, record { run_is = refl; blocks = []; made = refl })
 
     -- what a run of so many turns comes to, the machine comes to
-    claimed : (input : List ℕ) → All (λ b. b < 2 ^ 8) input → (n : ℕ) → Agreeing.Claimed p c heap stack ground room (run_of p input n false) n input
+    claimed : (input : List ℕ) → All (λ b. b < 2 ^ 8) input → (n : ℕ) → Agreeing.Claimed p c heap stack ground room segments (run_of p input n false) n input
     claimed input bytes n =
         let claims = claims_are ground (placed p c) (Room.DoesFit p c heap stack ground room) in
         let covers = same p input n false in
@@ -63,15 +66,15 @@ module _ (p : ProgramData) (t : Tac) (heap stack : ℕ) (fits : Fits p t) (heap_
         let follows = runs ground (placed p c) built Claim claims (Room.calls_have_room p c heap stack ground room earlier adds steps_add call_room)
         (Room.allocations_have_room p c heap stack ground room earlier adds steps_add heap_room) k in
         let text = λ (a : ℕ). ap (λ (m : Memory). m a) (Images.ground_text p t heap stack fits heap_high stack_high) in
-        subst (λ (e : End). Agreeing.Claimed p c heap stack ground room e n input) (covers.is 0)
-        (subst (λ (z : Code). Agreeing.Claimed p c heap stack ground room (code_run p.types z (start p input n false) k) n input) code
+        subst (λ (e : End). Agreeing.Claimed p c heap stack ground room segments e n input) (covers.is 0)
+        (subst (λ (z : Code). Agreeing.Claimed p c heap stack ground room segments (code_run p.types z (start p input n false) k) n input) code
         (first p t heap stack fits sound small ground text room (Images.texts_hold p t heap stack fits heap_high stack_high) built
-        (Images.code_stands p t heap stack fits heap_high stack_high) Claim claims (go p.types c k) follows no_turn
+        (Images.program_here p t heap stack fits heap_high stack_high) Claim claims (go p.types c k) follows no_turn
         (Room.main_has_room p c heap stack ground room earlier adds steps_add call_room k) input bytes n))
 
     -- the file of the image is one of the program
     pub file_is : LightRunsFit → AreWithin p (frame_in c) → ((input : List ℕ) (n : ℕ) → HadRoom (source p input n)) → (elf : List ℕ)
         → loaded elf ≡ Ok (image_of p c heap stack) → IsFileOf p heap stack elf
     file_is light within had elf loads =
-        Agreeing.is_file p c heap stack ground room (Images.ground_segments p t heap stack fits heap_high stack_high) claimed
+        Agreeing.is_file p c heap stack ground room segments claimed
         (λ input n h. light p heap stack input n h (frame_in c) within) had elf loads
