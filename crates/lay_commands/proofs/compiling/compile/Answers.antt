@@ -43,6 +43,11 @@ returns-in_err-check_built-clause-gives g c input =
     (slice_get-map name_of names 0 ∙ ap (option_map name_of) (slice_get-get_or names 0 no_name (rw length-map at c.requires.some)))
     c.in_err-check_built.field-0.0 c.in_err-check_built.ensures)
 
+pub returns-in_err-elf-clause-gives : goal.returns-in_err-elf-clause-gives
+returns-in_err-elf-clause-gives g c input =
+    let is_err = err_from_is_err_and c.from_residual-in_err-elf.result c.from_residual-in_err-elf.ensures.1 in
+    rw (is_err.1, is_err.2) ((c.in_ok-source.ensures.gives input (stream (g.O.Sink.written c.args.out.now) (g.O.Sink.faults c.args.out.now))).2)
+
 pub returns-in_err-write_bytes-clause-gives : goal.returns-in_err-write_bytes-clause-gives
 returns-in_err-write_bytes-clause-gives g c input =
     let is_err = err_from_is_err_and c.from_residual-in_err-write_bytes.result c.from_residual-in_err-write_bytes.ensures.1 in
