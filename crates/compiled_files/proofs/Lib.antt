@@ -7,3 +7,4 @@ pub mod Weighed
 pub mod Agreeing
 pub mod Composed
 pub mod Theorem
+mod Example

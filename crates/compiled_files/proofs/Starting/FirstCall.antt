@@ -124,7 +124,7 @@ module _ (ground : Ground) (p : Program) (blocks : Extents) (owner : ℕ → Opt
     made = h.made;
   })
 
-  first_ready : IsPlace p.end_place → (turns : ℕ) (f : ℕ → ℕ) (pc : ℕ) → f 0 ≡ 0 → f 2 ≡ sp → code_address ≤ pc → pc % 4 ≡ 0
+  pub first_ready : IsPlace p.end_place → (turns : ℕ) (f : ℕ → ℕ) (pc : ℕ) → f 0 ≡ 0 → f 2 ≡ sp → code_address ≤ pc → pc % 4 ≡ 0
       → Ready ground p (first_moment turns) (record { f = f; pc = pc; memory = new; input = input; output = output; before = before })
   first_ready end n f pc nil stack inside whole =
       let covers = size_covers in
