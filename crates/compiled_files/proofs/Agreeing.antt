@@ -1,14 +1,14 @@
 -- The machine on the image of a program does what the program does, and its events are those of the program.
-use Rattle.std.proofs.Common.{◌≡◌, ℕ, zero, suc, ◌+◌, ◌*◌, ◌^◌, ◌<◌, ◌≤◌, false, List, [], ◌∷◌, All, Option, Some, None, Ok, refl, sym, ap, ◌∙◌, subst, inl, inr, arith}
+use Rattle.std.proofs.Common.{◌≡◌, ℕ, ◌^◌, ◌<◌, ◌≤◌, false, List, [], All, Ok, refl, ap, subst, arith}
 use Rattle.std.specs.Prelude.{Contains}
-use Rattle.agreement.specs.Agreement.{Agrees, AgreesFor, shows}
-use Rattle.agreement.specs.Real.{ComesTo, IsRealFor, Real, events_of}
+use Rattle.agreement.specs.Agreement.{AgreesFor, shows}
+use Rattle.agreement.specs.Real.{ComesTo, IsRealFor, events_of}
 use Rattle.agreement.proofs.NothingElse.{agrees_for}
 use Rattle.block_memory.specs.RunWorlds.Events.{Event, output_of}
 use Rattle.block_memory.specs.RunWorlds.Worlds.{World, End, ends, goes_on, undefined, out_of_room, world_of}
 use Rattle.block_memory.specs.SourceEnd.{SourceEnd, Ends, GoesOn, Undefined}
 use Rattle.c_meaning.specs.Longer.{HadRoom}
-use Rattle.c_meaning.specs.Run.{run, run_of, seen, start}
+use Rattle.c_meaning.specs.Run.{run, run_of, seen}
 use Rattle.c_meaning.specs.SourceRun.{source_end, source_run}
 use Rattle.c_meaning.specs.Weights.{IsLight}
 use Rattle.c_typed.specs.Programs.{ProgramData}
@@ -20,7 +20,7 @@ use Rattle.rv_image.specs.Images.{image_of, room_segment}
 use Rattle.rv_isa.specs.declared.image.Image.{Image}
 use Rattle.rv_isa.specs.Events.{events}
 use Rattle.rv_isa.specs.declared.image.Segment.{Segment}
-use Rattle.rv_isa.specs.Run.{Shown, machine_run, run as machine, start as machine_start}
+use Rattle.rv_isa.specs.Run.{Shown, run as machine, start as machine_start}
 use Rattle.rv_isa.specs.Step.{Running, Exits, Standing}
 use Rattle.tac_ir.specs.Code.{Code}
 use Rattle.compiled_files.specs.Files.{IsFileOf, trace_in}

@@ -1,8 +1,8 @@
 -- The machine's events, as the relation has them, are those of the trace.
-use Rattle.std.proofs.Common.{◌≡◌, ℕ, ◌+◌, List, [], ◌∷◌, ◌++◌, Option, Some, None, refl, sym, ap, ◌∙◌, subst, reverse}
+use Rattle.std.proofs.Common.{◌≡◌, ℕ, ◌+◌, List, [], ◌∷◌, ◌++◌, Option, Some, None, sym, ap, ◌∙◌}
 use Rattle.std.specs.Prelude.{slice_get}
-use Rattle.std.proofs.lemmas.List.{append_assoc, append-nil, reverse-reverse}
-use Rattle.agreement.specs.Real.{events_of, machine_events}
+use Rattle.std.proofs.lemmas.List.{append_assoc, append-nil}
+use Rattle.agreement.specs.Real.{events_of}
 use Rattle.block_memory.specs.RunWorlds.Events as E
 use Rattle.block_memory.specs.RunWorlds.Events.{Event}
 use Rattle.rv_emit.specs.Grounds.{Ground}

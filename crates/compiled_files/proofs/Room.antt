@@ -1,13 +1,10 @@
 -- Where a run fits, a function that is entered has room for its frame in the stack, and an allocation has room in the heap. So what is claimed of runs that
 -- fit may be proved where there is room.
-use Rattle.std.proofs.Common.{◌≡◌, ℕ, zero, suc, ◌+◌, ◌*◌, ◌^◌, ◌≤◌, List, [], ◌∷◌, Option, Some, None, refl, sym, ap, ◌∙◌, subst, arith}
+use Rattle.std.proofs.Common.{◌≡◌, ℕ, ◌+◌, ◌*◌, ◌^◌, ◌≤◌, List, [], ◌∷◌, Option, Some, None, refl, sym, ap, ◌∙◌, subst, arith}
 use Rattle.std.specs.Prelude.{drop, slice_get}
-use Rattle.lay_base.specs.declared.place.Place.{Place}
 use Rattle.block_memory.specs.RunWorlds.Events as E
 use Rattle.block_memory.specs.RunWorlds.Events.{Event, entered, allocated, heap_weight}
 use Rattle.block_memory.specs.RunWorlds.Worlds.{World, End, ends, goes_on, undefined, out_of_room, world_of}
-use Rattle.block_memory.specs.declared.run_worlds.value.Value.{Value}
-use Rattle.c_meaning.specs.Frames.{Frame}
 use Rattle.c_typed.specs.Programs.{ProgramData}
 use Rattle.rv_code.specs.Code.{stack_place}
 use Rattle.rv_code.specs.Frames.{frame_size}
@@ -22,10 +19,9 @@ use Rattle.rv_isa.specs.Memory as M
 use Rattle.rv_isa.specs.Step.{State}
 use Rattle.tac_ir.specs.Code.{Code, RoutineData}
 use Rattle.tac_ir.specs.Running.{Caller, body, go, no_place}
-use Rattle.tac_ir.specs.declared.step.Step.{Step}
 use Rattle.tac_runs.specs.Active.{active, frames}
-use Rattle.tac_runs.specs.Growth.{Grew, Onward, OnlyAdds}
-use Rattle.tac_runs.specs.Laws.{Add, EarlierFits, RunsAdd, StepsAdd}
+use Rattle.tac_runs.specs.Growth.{Grew, Onward}
+use Rattle.tac_runs.specs.Laws.{EarlierFits, RunsAdd, StepsAdd}
 use Rattle.tac_runs.specs.Room.{AllocationHasRoom, CallHasRoom, Fits}
 use Rattle.compiled_files.specs.Placing.{placed, room_of}
 

@@ -1,6 +1,5 @@
 -- No frame takes more than a call of its function weighs.
-use Rattle.std.proofs.Common.{◌≡◌, ◌≢◌, ℕ, ◌+◌, ◌≤◌, Bool, List, [], ◌∷◌, ◌++◌, map, Option, Some, None, refl, sym, ap, ◌∙◌, subst, arith, slice_get}
-use Rattle.c_meaning.specs.Program.{all_locals}
+use Rattle.std.proofs.Common.{◌≡◌, ℕ, ◌≤◌, Bool, List, [], ◌++◌, map, Option, Some, None, refl, sym, ap, ◌∙◌, subst, arith, slice_get}
 use Rattle.c_meaning.specs.Weights.{frame_of}
 use Rattle.c_typed.specs.Programs.{FunctionData, ProgramData}
 use Rattle.c_typed.specs.Trees.{Statement}

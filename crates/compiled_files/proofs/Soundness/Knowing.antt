@@ -4,8 +4,7 @@ use Rattle.std.proofs.Common.{ap, sym, subst, ◌∙◌, arith, slice_get, if◌
 use Rattle.std.proofs.lemmas.Bool.{or_left}
 use Rattle.std.proofs.lemmas.Option.{slice_get_within}
 use Rattle.std.specs.List.{list_any}
-use Rattle.std.specs.Prelude.{All, unwrap_or}
-use Rattle.c_types.specs.Layouts.{size_of}
+use Rattle.std.specs.Prelude.{All}
 use Rattle.c_types.specs.Limits.{greatest_size}
 use Rattle.c_types.specs.Types.{CType, void, integer, pointer, array, function, structure, Record}
 use Rattle.c_typed.specs.Conversions.{element_of, is_scalar}
@@ -16,7 +15,7 @@ use Rattle.c_typed.specs.declared.program.Local.{Local}
 use Rattle.c_typed.specs.declared.program.Object.{Object}
 use Rattle.c_meaning.specs.Program.{all_locals, element_size, size_at, type_at}
 use Rattle.c_printable.specs.Programs.{AreMarked}
-use Rattle.c_well_typed.specs.WellTyped.{AreWellTyped, IsSmallType, declared_in, of_program}
+use Rattle.c_well_typed.specs.WellTyped.{AreWellTyped, declared_in, of_program}
 use Rattle.lower_tac.specs.Expressions.{named}
 use Rattle.lower_tac.specs.Statements.{lowered}
 use Rattle.rv_code.specs.Frames.{places_from, whole_words}
@@ -25,7 +24,7 @@ use Rattle.source_values.specs.Rows.{TypesAreSmall}
 use Rattle.compiled_files.proofs.Soundness.Bodies.{as_many}
 use Rattle.compiled_files.proofs.Soundness.Declaring.{LocalFacts}
 use Rattle.compiled_files.proofs.Soundness.Routines as Routines
-use Rattle.compiled_files.proofs.Soundness.Sizing.{at_all, get_from, get_map, not_empty, part_ends}
+use Rattle.compiled_files.proofs.Soundness.Sizing.{get_from, get_map, not_empty, part_ends}
 use Rattle.compiled_files.proofs.Soundness.Typing.{Facts}
 
 places_long : (at : ℕ) (sizes : List ℕ) → length (places_from at sizes) ≡ length sizes

@@ -1,5 +1,5 @@
 -- A file of bytes is that of an image whose memory holds bytes.
-use Rattle.std.proofs.Common.{ℕ, ◌-◌, ◌^◌, ◌<◌, List, [], ◌∷◌, ◌++◌, All, length}
+use Rattle.std.proofs.Common.{ℕ, ◌-◌, ◌^◌, ◌<◌, List, [], ◌∷◌, ◌++◌, length}
 use Rattle.std.proofs.lemmas.List.Elements.{All-cons, All-head, All-nil, All-tail}
 use Rattle.c_typed.specs.Programs.{ProgramData}
 use Rattle.elf32.specs.Written.{elf_file, file_header, four_headers, heap_address, page_up, stack_address, text_address, zeros}

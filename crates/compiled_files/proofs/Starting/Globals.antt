@@ -1,10 +1,9 @@
 -- The data of a program: the runtime's own come first, then the objects, each as it is at first, and the texts behind them.
-use Rattle.std.proofs.Common.{◌≡◌, ℕ, zero, suc, ◌+◌, ◌-◌, ◌^◌, ◌<◌, ◌≤◌, inl, List, [], ◌∷◌, ◌++◌, length, map, Some}
+use Rattle.std.proofs.Common.{◌≡◌, ℕ, zero, suc, ◌+◌, ◌-◌, ◌<◌, ◌≤◌, inl, List, [], ◌∷◌, length, map, Some}
 use Rattle.std.proofs.Common.{slice_get, slice_index, refl, ap, ◌∙◌, sym, subst, arith}
 use Rattle.std.specs.Prelude.{All, Contains, replicate}
-use Rattle.std.specs.Int.{w32, to_le_bytes}
 use Rattle.std.proofs.lemmas.List.{get_or_append_left, get_or-append_right, length-append, length-map, length-replicate}
-use Rattle.std.proofs.lemmas.List.Elements.{All-append, All-cons, All-contains, All-head, All-nil, All-replicate, All-tail}
+use Rattle.std.proofs.lemmas.List.Elements.{All-append, All-cons, All-contains, All-nil}
 use Rattle.c_typed.specs.Programs.{ProgramData}
 use Rattle.c_typed.specs.declared.program.Object.{Object}
 use Rattle.c_meaning.specs.Program.{object_size}
@@ -18,7 +17,6 @@ use Rattle.rv_image.specs.Data.{put_all_texts, put_bytes, put_objects, put_texts
 use Rattle.rv_image.proofs.Walks.{all_ends_behind}
 use Rattle.compiled_files.specs.Placing.{placed_texts, with_places}
 use Rattle.compiled_files.specs.Sound.{ObjectsFit}
-use Rattle.rv_isa.specs.Events.{heap_start}
 use Rattle.rv_runtime.specs.Bytes.{data_bytes, zeros}
 use Rattle.rv_runtime.specs.Routines.{data_place}
 use Rattle.rv_emit.proofs.Lists.{end_above, get_below, place_within}

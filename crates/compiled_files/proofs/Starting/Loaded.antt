@@ -1,22 +1,19 @@
 -- The memory of the machine before its first step: the text and the data of the program, and zeros.
-use Rattle.std.proofs.Common.{◌≡◌, ℕ, ◌+◌, ◌-◌, ◌*◌, ◌^◌, ◌<◌, ◌≤◌, ◌⊎◌, inl, inr, Bool, false, cond, leb, List, [], ◌∷◌, ◌++◌, length, slice_index}
+use Rattle.std.proofs.Common.{◌≡◌, ℕ, ◌+◌, ◌-◌, ◌^◌, ◌<◌, ◌≤◌, ◌⊎◌, inl, inr, Bool, false, cond, leb, List, [], ◌∷◌, length, slice_index}
 use Rattle.std.proofs.Common.{refl, ap, ◌∙◌, arith, le-leb, le-ltb, lt-ltb}
 use Rattle.std.specs.Prelude.{All}
-use Rattle.std.specs.Int.{w32, to_le_bytes}
 use Rattle.std.proofs.lemmas.Bool.{and_left, and_right, cases_lt, cond_both, lt-leb}
 use Rattle.std.proofs.lemmas.List.{get_or_past}
-use Rattle.std.proofs.lemmas.List.Elements.{All-append, All-cons, All-get_or, All-head, All-nil, All-replicate, All-tail}
+use Rattle.std.proofs.lemmas.List.Elements.{All-get_or, All-head, All-tail}
 use Rattle.c_typed.specs.Programs.{ProgramData}
 use Rattle.rv_isa.specs.declared.image.Segment.{Segment}
-use Rattle.rv_isa.specs.Encoding.{encoding}
 use Rattle.rv_isa.specs.Memory.{initial_memory, is_in}
-use Rattle.rv_runtime.specs.Bytes.{bytes_of, open_page, page, runtime_bytes, words_of, zeros}
-use Rattle.rv_runtime.specs.Routines.{calloc_code, compare_code, copy_code, data_place, exit_code, fill_code, free_code, malloc_code, return_code, start_code}
-use Rattle.tac_ir.specs.Code.{Code, code_of}
+use Rattle.rv_runtime.specs.Routines.{data_place}
+use Rattle.tac_ir.specs.Code.{code_of}
 use Rattle.tac_ir.specs.declared.step.Tac.{Tac}
-use Rattle.rv_code.specs.Programs.{places_of, program_code}
+use Rattle.rv_code.specs.Programs.{places_of}
 use Rattle.elf32.specs.Written.{heap_address, stack_address}
-use Rattle.rv_image.specs.Data.{data_of_program, object_places, texts_at}
+use Rattle.rv_image.specs.Data.{data_of_program, object_places}
 use Rattle.rv_image.specs.Images.{Fits, end_of_room, full_segment, image_of, room_segment, text_of_program}
 use Rattle.compiled_files.proofs.Starting.Putting.{AreBytes}
 

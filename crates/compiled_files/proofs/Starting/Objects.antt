@@ -2,10 +2,10 @@
 use Rattle.std.proofs.Common.{◌≡◌, ℕ, zero, suc, ◌+◌, ◌-◌, ◌/◌, ◌%◌, ◌^◌, ◌<◌, ◌≤◌, inl, inr, List, [], ◌∷◌, ◌++◌, length, map, Option, Some, None}
 use Rattle.std.proofs.Common.{slice_get, slice_index, take, drop, refl, ap, ◌∙◌, sym, subst, arith}
 use Rattle.std.specs.Prelude.{All, replicate}
-use Rattle.std.specs.Int.{w32, byte_at, to_le_bytes}
+use Rattle.std.specs.Int.{w32, to_le_bytes}
 use Rattle.std.specs.List.{fold}
 use Rattle.std.proofs.lemmas.List.{length-append, length-drop, length-replicate, length-take}
-use Rattle.std.proofs.lemmas.List.Elements.{All-cons, All-head, All-nil, All-tail, All-take}
+use Rattle.std.proofs.lemmas.List.Elements.{All-head, All-tail}
 use Rattle.c_types.specs.IntKinds.{width}
 use Rattle.c_types.specs.declared.ty.IntKind.{IntKind}
 use Rattle.c_types.specs.declared.ty.IntKind.TheVariants as I

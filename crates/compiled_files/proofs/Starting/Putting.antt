@@ -3,7 +3,6 @@ use Rattle.std.proofs.Common.{◌≡◌, ◌≢◌, ℕ, zero, suc, ◌+◌, ◌
 use Rattle.std.proofs.Common.{slice_get, slice_index, take, drop, refl, ap, ◌∙◌, subst, arith}
 use Rattle.std.specs.Prelude.{All, replicate, slice_set}
 use Rattle.std.proofs.lemmas.List.{length-set, get_or-set_same, get_or-set_other}
-use Rattle.std.proofs.lemmas.List.Elements.{All-head, All-set, All-tail}
 use Rattle.rv_image.specs.Data.{put_bytes}
 use Rattle.rv_emit.proofs.Cells.{Outside}
 

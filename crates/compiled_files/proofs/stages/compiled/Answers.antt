@@ -1,5 +1,4 @@
 use Rattle.std.proofs.Common.{◌<◌, ◌^◌, All, Ok, ap, ◌∙◌, subst}
-use Rattle.c_typed.specs.Programs.{program_data}
 use Rattle.elf32.specs.Written.{elf_file}
 use Rattle.compiled_files.proofs.stages.compiled.Goals as goal
 
