@@ -3,7 +3,7 @@
 
 - Each program of `tools/programs` and of `examples/interp`: its file ends by `layc run` as its sources end by `layc interp`, and by QEMU's user-mode emulator
   as well, on its input and on beginnings of it.
-- Random programs by csmith, 40 or as many as a word on the command line says: the same, and by GCC's code for the machine at hand.
+- Random programs by csmith, 300 or as many as a word on the command line says: the same, and by GCC's code for the machine at hand.
 - Programs that ask for more room than there is: their files break where they ask, after what was written before, and so does a count of records whose bytes
   are no word; one that asks for less goes on.
 - readelf and objdump take each of these files, and by objdump each word of its code is an instruction of RV32IM.
@@ -23,7 +23,7 @@ import instructions
 from check_interp import EXAMPLES, PROGRAMS, Compiled, is_short, makes_programs, programs, read
 from checking import EMULATOR, LAYC, READELF, check, have
 
-COUNT, MOST_SEEDS_EACH = 40, 10
+COUNT, MOST_SEEDS_EACH = 300, 10
 STEPS = 10**10
 DUMP = "riscv64-unknown-elf-objdump"
 BREAKS, SIGTRAP = 125, 5
