@@ -8,7 +8,7 @@ use Rattle.c_typed.specs.Programs.{ProgramData}
 use Rattle.compiled_files.specs.Files.{IsFileOf}
 use Rattle.refusals.specs.declared.refusal.Refusal.{Refusal}
 use Rattle.refusals.specs.declared.refusal.Refusal.TheVariants as R
-use Rattle.command_words.specs.Words.{Compilation}
+use Rattle.lay_commands.specs.Words.{Compilation}
 use Rattle.lay_compile.specs.ProgramFiles.FrontEnd.{FilesAreRefused}
 use Rattle.lay_compile.specs.ProgramFiles.Outside.{Outside, Stream, outside}
 use Rattle.lay_compile.specs.ProgramFiles.Reading.{AreFilesOf}

@@ -13,7 +13,7 @@ use Rattle.source_run.specs.RunGives.{RunGives as RunComesTo}
 use Rattle.source_run.specs.Streams.{Streams}
 use Rattle.source_run.specs.declared.end.RunEnd.{RunEnd}
 use Rattle.source_run.specs.declared.end.RunEnd.TheVariants as E
-use Rattle.command_words.specs.Words.{Profiling}
+use Rattle.lay_commands.specs.Words.{Profiling}
 use Rattle.lay_compile.specs.ProgramFiles.FrontEnd.{FilesAreRefused}
 use Rattle.lay_compile.specs.ProgramFiles.Outside.{Outside, Stream, outside, stream, IsUntouched}
 use Rattle.lay_compile.specs.ProgramFiles.Reading.{AreFilesOf}

@@ -1,3 +1,6 @@
+pub mod Declared
+pub mod Found
+pub mod Spelled
 pub mod Files
 pub mod NoPlaces
 pub mod Compiled

@@ -3,7 +3,7 @@ use Rattle.std.proofs.Common.{ℕ, List, Option}
 use Rattle.std.specs.Prelude.{Result, Ok, Err, IfErr}
 use Rattle.lay_base.specs.Known.{Contents}
 use Rattle.c_typed.specs.Programs.{ProgramData}
-use Rattle.command_words.specs.Words.{Compilation}
+use Rattle.lay_commands.specs.Words.{Compilation}
 use Rattle.refusals.specs.declared.refusal.Refusal.{Refusal}
 use Rattle.refusals.specs.declared.refusal.Refusal.TheVariants as R
 use Rattle.lay_compile.specs.declared.program_files.front_end.PlaceTexts.{PlaceTexts}

@@ -16,7 +16,7 @@ use Rattle.refusals.specs.declared.refusal.Refusal.TheVariants as R
 use Rattle.source_run.specs.RunGives.{RunGives as RunComesTo}
 use Rattle.source_run.specs.declared.end.RunEnd.{RunEnd}
 use Rattle.source_run.specs.declared.end.RunEnd.TheVariants as E
-use Rattle.command_words.specs.Words.{Command, Compilation, Profiling, Compile, Profile, Interp, Run}
+use Rattle.lay_commands.specs.Words.{Command, Compilation, Profiling, Compile, Profile, Interp, Run}
 use Rattle.lay_compile.specs.ProgramFiles.FrontEnd.{AreRefused, HaveTexts, FilesAreRefused}
 use Rattle.lay_compile.specs.ProgramFiles.Outside.{Outside}
 use Rattle.lay_compile.specs.ProgramFiles.Reading.{AreFilesOf, WereSo}

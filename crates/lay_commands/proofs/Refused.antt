@@ -7,7 +7,7 @@ use Rattle.lay_base.specs.declared.outside.SinkFault.{SinkFault}
 use Rattle.refusals.specs.Table.{refusal_text}
 use Rattle.refusals.specs.declared.refusal.Refusal.{Refusal}
 use Rattle.refusals.specs.declared.refusal.Refusal.TheVariants as R
-use Rattle.command_words.specs.Words.{Command}
+use Rattle.lay_commands.specs.Words.{Command}
 use Rattle.lay_compile.specs.declared.program_files.front_end.PlaceTexts.{PlaceTexts}
 use Rattle.lay_compile.specs.ProgramFiles.FrontEnd.{HasTexts, or_empty}
 use Rattle.lay_compile.specs.ProgramFiles.Outside.{Outside, Stream, stream}

@@ -3,13 +3,13 @@ use Rattle.std.proofs.Common.{◌≡◌, ℕ, List, Option, Some, sym, subst}
 use Rattle.std.specs.Prelude.{◌⊎◌, Result, Ok, Err, IfErr}
 use Rattle.lay_base.specs.Known.{Contents}
 use Rattle.refusals.specs.declared.refusal.Refusal.{Refusal}
-use Rattle.command_words.specs.declared.words.CompileRequest.{CompileRequest}
-use Rattle.command_words.specs.declared.words.InterpRequest.{InterpRequest}
-use Rattle.command_words.specs.declared.words.ProfileRequest.{ProfileRequest}
-use Rattle.command_words.specs.declared.words.RunRequest.{RunRequest}
-use Rattle.command_words.specs.declared.words.Request.{Request}
-use Rattle.command_words.specs.declared.words.Request.TheVariants as Q
-use Rattle.command_words.specs.Words.{requested, compilation_of, interpretation_of, profiling_of}
+use Rattle.lay_commands.specs.declared.words.CompileRequest.{CompileRequest}
+use Rattle.lay_commands.specs.declared.words.InterpRequest.{InterpRequest}
+use Rattle.lay_commands.specs.declared.words.ProfileRequest.{ProfileRequest}
+use Rattle.lay_commands.specs.declared.words.RunRequest.{RunRequest}
+use Rattle.lay_commands.specs.declared.words.Request.{Request}
+use Rattle.lay_commands.specs.declared.words.Request.TheVariants as Q
+use Rattle.lay_commands.specs.Words.{requested, compilation_of, interpretation_of, profiling_of}
 use Rattle.lay_compile.specs.declared.program_files.front_end.PlaceTexts.{PlaceTexts}
 use Rattle.lay_compile.specs.ProgramFiles.FrontEnd.{HasTexts, or_empty}
 use Rattle.lay_compile.specs.ProgramFiles.Outside.{Outside}

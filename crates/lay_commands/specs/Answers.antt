@@ -4,7 +4,7 @@ use Rattle.lay_base.specs.Known.{Contents, Rose, Appends}
 use Rattle.refusals.specs.Table.{refusal_text, HasPlace}
 use Rattle.refusals.specs.declared.refusal.Refusal.{Refusal}
 use Rattle.refusals.specs.declared.refusal.Refusal.TheVariants as R
-use Rattle.command_words.specs.Words.{Command, Compile, Profile, Interp, Run}
+use Rattle.lay_commands.specs.Words.{Command, Compile, Profile, Interp, Run}
 use Rattle.lay_compile.specs.ProgramFiles.FrontEnd.{HaveTexts}
 use Rattle.lay_compile.specs.ProgramFiles.Outside.{Stream, Outside, IsUntouched}
 use Rattle.lay_compile.specs.ProgramFiles.Reading.{WereSo}

@@ -3,7 +3,7 @@ use Rattle.std.specs.Prelude.{◌≡◌, ◌≢◌, ℕ, false, true, List, [], 
 use Rattle.lay_base.specs.Known.{Contents, Rose, IfKnown, Appends, FilesKeepBut}
 use Rattle.c_link.specs.Programs.{IsProgramOf}
 use Rattle.c_typed.specs.Programs.{ProgramData}
-use Rattle.command_words.specs.Words.{Compilation}
+use Rattle.lay_commands.specs.Words.{Compilation}
 use Rattle.compiled_files.specs.Files.{IsFileOf}
 use Rattle.lay_compile.specs.ProgramFiles.Outside.{Outside}
 use Rattle.lay_compile.specs.ProgramFiles.Reading.{WereSo}

@@ -11,7 +11,7 @@ use Rattle.source_run.specs.RunGives.{RunGives as RunComesTo}
 use Rattle.source_run.specs.Streams.{Streams, streams}
 use Rattle.source_run.specs.declared.end.RunEnd.{RunEnd}
 use Rattle.source_run.specs.declared.end.RunEnd.TheVariants as E
-use Rattle.command_words.specs.Words.{Interpretation, Profiling}
+use Rattle.lay_commands.specs.Words.{Interpretation, Profiling}
 use Rattle.lay_commands.specs.declared.profiling.Profiled.{Profiled}
 use Rattle.lay_compile.specs.ProgramFiles.FrontEnd.{FilesAreRefused}
 use Rattle.lay_compile.specs.ProgramFiles.Outside.{Outside}

@@ -1,3 +1,5 @@
+pub mod CommandLine
+pub mod Words
 pub mod Compiling
 pub mod Interpreting
 pub mod Running

@@ -9,7 +9,7 @@ use Rattle.rv_isa.specs.Step.{Exits, Trap, Break}
 use Rattle.elf32.specs.Loaded.{loaded}
 use Rattle.rv_machine.specs.declared.machine.MachineEnd.{MachineEnd}
 use Rattle.rv_machine.specs.declared.machine.MachineEnd.TheVariants as E
-use Rattle.command_words.specs.Words.{Compilation}
+use Rattle.lay_commands.specs.Words.{Compilation}
 use Rattle.lay_compile.specs.ProgramFiles.FrontEnd.{FilesAreRefused}
 use Rattle.lay_compile.specs.ProgramFiles.Outside.{Outside, IsUntouched, HoldsLonger}
 use Rattle.lay_commands.specs.Compiling.{WereProgram, IsBuilt, IsNotBuilt, IsDone, HostFailed, OutFailed, report}

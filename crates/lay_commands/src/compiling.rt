@@ -2,14 +2,14 @@
 
 ghost use Rattle.std.specs.Prelude.{◌≡◌, ◌≤◌, ℕ, List, IfErr, slice_get, Some};
 ghost use Rattle.c_typed.specs.Programs.{program_data};
-ghost use Rattle.command_words.specs.Words.{IsInRange, compilation_of};
+ghost use Rattle.lay_commands.specs.Words.{IsInRange, compilation_of};
 ghost use Rattle.lay_compile.specs.ProgramFiles.FrontEnd.{HasTexts};
 ghost use Rattle.lay_compile.specs.ProgramFiles.Outside.{Stream, outside, stream};
 ghost use Rattle.lay_commands.specs.Stages.{BuildGives, ReportGives, CompileGives};
 
+use crate::words::CompileRequest;
 use crate::writing::write_bytes;
 use c_typed::Typed;
-use command_words::CompileRequest;
 use compiled_files::compiled;
 use lay_base::{Host, Name, Sink};
 use lay_compile::{PlaceTexts, program_in};

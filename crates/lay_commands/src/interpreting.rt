@@ -3,14 +3,14 @@
 ghost use Rattle.std.specs.Prelude.{◌≡◌, ◌⊎◌, ◌≤◌, ◌^◌, All, Err, IfErr, length};
 ghost use Rattle.source_run.specs.declared.end.RunEnd.TheVariants.{Undefined};
 ghost use Rattle.c_typed.specs.Programs.{program_data};
-ghost use Rattle.command_words.specs.Words.{AreTurns, interpretation_of};
+ghost use Rattle.lay_commands.specs.Words.{AreTurns, interpretation_of};
 ghost use Rattle.lay_compile.specs.ProgramFiles.FrontEnd.{AreTexts, HasTexts};
 ghost use Rattle.lay_compile.specs.ProgramFiles.Outside.{outside, stream};
 ghost use Rattle.source_run.specs.Streams.{streams};
 ghost use Rattle.lay_commands.specs.Answers.{IsOfSource, run_outcome};
 ghost use Rattle.lay_commands.specs.Interpreting.{InterpGives, InterpretGives, Tells};
 
-use command_words::InterpRequest;
+use crate::words::InterpRequest;
 use lay_base::{File, Host, Place, Sink, Source, UndefinedKind};
 use lay_compile::{PlaceTexts, SourceProgram, program_in, texts_of};
 use refusals::Refusal;

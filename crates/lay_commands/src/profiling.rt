@@ -2,7 +2,7 @@
 
 ghost use Rattle.std.specs.Prelude.{◌≡◌, ◌⊎◌, ◌≤◌, ◌^◌, All, IfErr, length};
 ghost use Rattle.c_typed.specs.Programs.{program_data};
-ghost use Rattle.command_words.specs.Words.{AreTurns, profiling_of};
+ghost use Rattle.lay_commands.specs.Words.{AreTurns, profiling_of};
 ghost use Rattle.lay_compile.specs.ProgramFiles.FrontEnd.{AreTexts, HasTexts};
 ghost use Rattle.lay_compile.specs.ProgramFiles.Outside.{outside, stream};
 ghost use Rattle.source_run.specs.Streams.{streams};
@@ -10,8 +10,8 @@ ghost use Rattle.lay_commands.specs.Answers.{IsOfSource, run_outcome};
 ghost use Rattle.lay_commands.specs.Interpreting.{ProfileGives, ProfiledGives};
 
 use crate::interpreting::answer_for;
+use crate::words::ProfileRequest;
 use crate::writing::write_bytes;
-use command_words::ProfileRequest;
 use lay_base::{Host, Sink, Source};
 use lay_compile::{PlaceTexts, SourceProgram, program_in};
 use refusals::Refusal;

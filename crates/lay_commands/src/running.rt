@@ -7,7 +7,7 @@ ghost use Rattle.lay_compile.specs.ProgramFiles.Outside.{outside, stream};
 ghost use Rattle.lay_commands.specs.Stages.{ImageGives, RunGives, answer_for};
 ghost use Rattle.lay_commands.specs.Answers.{IsOfMachine, run_outcome};
 
-use command_words::RunRequest;
+use crate::words::RunRequest;
 use elf32::ElfFault;
 use lay_base::{Host, NoMemory, Sink, Source};
 use lay_compile::bytes_of;

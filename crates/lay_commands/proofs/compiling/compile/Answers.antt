@@ -5,7 +5,7 @@ use Rattle.std.proofs.lemmas.List.{length-map}
 use Rattle.std.proofs.lemmas.Option.{slice_get-map, slice_get-get_or}
 use Rattle.std.proofs.lemmas.Result.{err_from_is_err_and}
 use Rattle.c_typed.specs.Programs.{program_data}
-use Rattle.command_words.specs.Words.{compilation_of}
+use Rattle.lay_commands.specs.Words.{compilation_of}
 use Rattle.lay_compile.specs.ProgramFiles.Outside.{stream}
 use Rattle.lay_compile.proofs.ProgramFiles.FilesRead.{no_name}
 use Rattle.lay_commands.specs.Stages.{WriteGives}

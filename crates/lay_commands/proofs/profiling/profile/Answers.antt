@@ -1,7 +1,7 @@
 use Rattle.std.proofs.Common.{ℕ, List, Err, subst}
 use Rattle.std.proofs.lemmas.Result.{err_from_is_err_and}
 use Rattle.c_typed.specs.Programs.{program_data}
-use Rattle.command_words.specs.Words.{profiling_of}
+use Rattle.lay_commands.specs.Words.{profiling_of}
 use Rattle.lay_compile.specs.ProgramFiles.Outside.{stream}
 use Rattle.lay_compile.proofs.ProgramFiles.FilesRead.{short_read}
 use Rattle.lay_compile.proofs.ProgramFiles.Sources.{places_in}

@@ -1,6 +1,6 @@
 use Rattle.std.proofs.Common.{map, refl}
 use Rattle.std.specs.String.{string_bytes}
-use Rattle.command_words.specs.Words.{command_of}
+use Rattle.lay_commands.specs.Words.{command_of}
 use Rattle.lay_compile.specs.ProgramFiles.FrontEnd.{or_empty}
 use Rattle.lay_compile.specs.ProgramFiles.Outside.{outside, stream}
 use Rattle.lay_commands.proofs.Placed.{places_stand}

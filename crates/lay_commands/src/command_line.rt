@@ -3,8 +3,8 @@
 ghost use Rattle.std.specs.Prelude.{◌≡◌, false, IfOk};
 ghost use Rattle.clap.specs.Walk.{rule_of};
 ghost use Rattle.clap.specs.Simple.{app_of};
-ghost use Rattle.command_words.specs.CommandLine.{compile_command, profile_command, interp_command, run_command, no_command, command_line};
-ghost use Rattle.command_words.specs.CommandLine.{out_option, plain_flag, long_option, files_argument, elf_argument};
+ghost use Rattle.lay_commands.specs.CommandLine.{compile_command, profile_command, interp_command, run_command, no_command, command_line};
+ghost use Rattle.lay_commands.specs.CommandLine.{out_option, plain_flag, long_option, files_argument, elf_argument};
 
 use clap::{Arg, ArgAction, Command};
 use std::alloc::{AllocError, Global};

@@ -5,10 +5,10 @@ ghost use Rattle.std.specs.String.{string_bytes};
 ghost use Rattle.clap.specs.Walk.{rows_of};
 ghost use Rattle.clap.specs.Matches.{found_of};
 ghost use Rattle.clap.specs.Simple.{subcommand_rows_of};
-ghost use Rattle.command_words.specs.CommandLine.{matches_in};
-ghost use Rattle.command_words.specs.Words.{Compile, Profile, Interp, Run, AreTurns, IsInRange, IsPossible, number_of, is_given, files_of};
-ghost use Rattle.command_words.specs.Words.{compile_of, profile_of, interp_of, run_of, turns_of, command_found};
-ghost use Rattle.command_words.specs.Words.{compilation_of, profiling_of, interpretation_of, requested};
+ghost use Rattle.lay_commands.specs.CommandLine.{matches_in};
+ghost use Rattle.lay_commands.specs.Words.{Compile, Profile, Interp, Run, AreTurns, IsInRange, IsPossible, number_of, is_given, files_of};
+ghost use Rattle.lay_commands.specs.Words.{compile_of, profile_of, interp_of, run_of, turns_of, command_found};
+ghost use Rattle.lay_commands.specs.Words.{compilation_of, profiling_of, interpretation_of, requested};
 
 use crate::command_line::command_line;
 use crate::numbers::number_in;

@@ -5,7 +5,7 @@ use Rattle.std.specs.Borrow.{Bor}
 use Rattle.clap.specs.Walk.{Text, rows_of, first_of, one_of, all_of}
 use Rattle.clap.specs.Matches.{first_value, one_text, matched_of, raw_values}
 use Rattle.clap.specs.declared.parser.matches.Found.{Found}
-use Rattle.command_words.specs.Words.{some_files}
+use Rattle.lay_commands.specs.Words.{some_files}
 use Rattle.clap.proofs.WalkLemmas.{first_value-rows, one_text-rows, raw_values-rows}
 
 pub first_by_rows : (f : Found) (id : Text) → first_value f id ≡ first_of id (rows_of f)

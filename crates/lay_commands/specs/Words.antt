@@ -7,12 +7,12 @@ use Rattle.std.specs.Char.{is_ascii_digit}
 use Rattle.std.specs.Str.{bytes_eq}
 use Rattle.std.specs.Str.Parse.{digits_value}
 use Rattle.clap.specs.Walk.{Text, Row, first_of, one_of, all_of}
-use Rattle.command_words.specs.CommandLine.{matches_in}
-use Rattle.command_words.specs.declared.words.CompileRequest.{CompileRequest}
-use Rattle.command_words.specs.declared.words.InterpRequest.{InterpRequest}
-use Rattle.command_words.specs.declared.words.ProfileRequest.{ProfileRequest}
-use Rattle.command_words.specs.declared.words.Request.{Request}
-use Rattle.command_words.specs.declared.words.Request.TheVariants as Q
+use Rattle.lay_commands.specs.CommandLine.{matches_in}
+use Rattle.lay_commands.specs.declared.words.CompileRequest.{CompileRequest}
+use Rattle.lay_commands.specs.declared.words.InterpRequest.{InterpRequest}
+use Rattle.lay_commands.specs.declared.words.ProfileRequest.{ProfileRequest}
+use Rattle.lay_commands.specs.declared.words.Request.{Request}
+use Rattle.lay_commands.specs.declared.words.Request.TheVariants as Q
 
 -- ---- numbers, where an option is not given, and the greatest
 

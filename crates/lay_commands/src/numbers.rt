@@ -3,7 +3,7 @@
 ghost use Rattle.std.specs.Prelude.{◌≡◌};
 ghost use Rattle.std.specs.List.{list_all};
 ghost use Rattle.std.specs.Char.{is_ascii_digit};
-ghost use Rattle.command_words.specs.Words.{number_in};
+ghost use Rattle.lay_commands.specs.Words.{number_in};
 
 /// The most digits of a number.
 const MOST_DIGITS: usize = 20;

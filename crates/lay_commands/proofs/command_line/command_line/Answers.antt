@@ -1,9 +1,9 @@
 use Rattle.std.proofs.Common.{◌≡◌, ◌∙◌, ap, ap₂}
 use Rattle.std.proofs.lemmas.Result.{IfOk-weaker}
 use Rattle.clap.specs.Simple.{App, app_of, on_top, with_subcommand}
-use Rattle.command_words.specs.CommandLine.{no_command, with_settings}
-use Rattle.command_words.proofs.Declared.{no_globals}
-use Rattle.command_words.proofs.command_line.command_line.Goals as goal
+use Rattle.lay_commands.specs.CommandLine.{no_command, with_settings}
+use Rattle.lay_commands.proofs.Declared.{no_globals}
+use Rattle.lay_commands.proofs.command_line.command_line.Goals as goal
 
 pub returns : goal.returns
 returns c =

@@ -1,6 +1,6 @@
 use Rattle.std.proofs.Common.{rules}
-use Rattle.command_words.proofs.Spelled.{unread}
-use Rattle.command_words.proofs.numbers.number_in.Goals as goal
+use Rattle.lay_commands.proofs.Spelled.{unread}
+use Rattle.lay_commands.proofs.numbers.number_in.Goals as goal
 
 pub returns-in_default-3 : goal.returns-in_default-3
 returns-in_default-3 c =
