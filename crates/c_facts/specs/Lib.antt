@@ -1,0 +1,5 @@
+pub mod Contexts
+pub mod Fields
+pub mod Facts
+pub mod Programs
+pub mod Puts

@@ -1,0 +1,54 @@
+//! The facts of the functions of a program.
+
+ghost use Rattle.std.specs.Prelude.{◌≡◌, ◌<◌, ◌^◌, IfOk, length};
+ghost use Rattle.c_typed.specs.Programs.{program_data};
+ghost use Rattle.c_facts.specs.Programs.{facts_at, facts_in, facts_of};
+ghost use Rattle.c_facts.specs.Puts.{Puts};
+
+use crate::fact::Fact;
+use crate::found::{Found, put};
+use crate::statements::statement;
+use c_typed::{Defined, Typed, profile_order};
+use lay_base::{List, NoMemory};
+use std::alloc::Global;
+
+fn function(found: &mut Found, p: &Typed, number: u32)
+    ensures { Puts found.old found.new (facts_at (program_data p.now) number) }
+{
+    match p.functions.get(number as usize) {
+        None => {}
+        Some(f) => match &f.body {
+            None => {}
+            Some(body) => {
+                put(found, Fact::FunctionBegins);
+                statement(found, body);
+            }
+        },
+    }
+}
+
+fn functions(found: &mut Found, p: &Typed, order: &[Defined])
+    ensures { Puts found.old found.new (facts_in (program_data p.now) order.now) }
+{
+    for defined in order {
+        function(found, p, defined.number);
+    }
+}
+
+/// What the functions of a program say of types and fields, function by function in the order of profiles.
+pub fn facts(alloc: Global, p: &Typed) -> Result<List<Fact>, NoMemory>
+    requires { length p.now.functions < 2 ^ 32 }
+    ensures { IfOk result (λ all. all ≡ facts_of (program_data p.now)) }
+{
+    let order = profile_order(alloc, p)?;
+    let mut found = Found {
+        list: List::new(alloc),
+        full: false,
+    };
+    functions(&mut found, p, order.as_slice());
+    if found.full {
+        return Err(NoMemory);
+    }
+    let Found { list, full: _ } = found;
+    Ok(list)
+}
