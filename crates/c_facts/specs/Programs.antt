@@ -13,9 +13,12 @@ abbrev pub facts_by_body : Option (Statement ℕ) → List Fact
 facts_by_body None = []
 facts_by_body (Some body) = FunctionBegins ∷ facts_by_statement body
 
+abbrev pub facts_by_function : FunctionData → List Fact
+facts_by_function f = facts_by_body f.body
+
 abbrev pub facts_of_any : Option FunctionData → List Fact
 facts_of_any None = []
-facts_of_any (Some f) = facts_by_body f.body
+facts_of_any (Some f) = facts_by_function f
 
 -- of the function of that number
 abbrev pub facts_at : ProgramData → ℕ → List Fact

@@ -1,29 +1,35 @@
 //! The facts of the functions of a program.
 
 ghost use Rattle.std.specs.Prelude.{◌≡◌, ◌<◌, ◌^◌, IfOk, length};
-ghost use Rattle.c_typed.specs.Programs.{program_data};
-ghost use Rattle.c_facts.specs.Programs.{facts_at, facts_in, facts_of};
+ghost use Rattle.c_typed.specs.Programs.{data_of, program_data};
+ghost use Rattle.c_facts.specs.Programs.{facts_at, facts_by_function, facts_in, facts_of};
 ghost use Rattle.c_facts.specs.Puts.{Puts};
 
 use crate::fact::Fact;
 use crate::found::{Found, put};
 use crate::statements::statement;
-use c_typed::{Defined, Typed, profile_order};
+use c_typed::{Defined, Function, Typed, profile_order};
 use lay_base::{List, NoMemory};
 use std::alloc::Global;
+
+fn body(found: &mut Found, f: &Function)
+    ensures { Puts found.old found.new (facts_by_function (data_of f.now)) }
+{
+    match &f.body {
+        None => {}
+        Some(body) => {
+            put(found, Fact::FunctionBegins);
+            statement(found, body);
+        }
+    }
+}
 
 fn function(found: &mut Found, p: &Typed, number: u32)
     ensures { Puts found.old found.new (facts_at (program_data p.now) number) }
 {
     match p.functions.get(number as usize) {
         None => {}
-        Some(f) => match &f.body {
-            None => {}
-            Some(body) => {
-                put(found, Fact::FunctionBegins);
-                statement(found, body);
-            }
-        },
+        Some(f) => body(found, f),
     }
 }
 
