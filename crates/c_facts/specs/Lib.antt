@@ -3,3 +3,4 @@ pub mod Fields
 pub mod Facts
 pub mod Programs
 pub mod Puts
+mod Examples
