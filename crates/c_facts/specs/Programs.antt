@@ -8,10 +8,10 @@ use Rattle.c_facts.specs.declared.fact.Fact.{Fact}
 use Rattle.c_facts.specs.declared.fact.Fact.TheVariants.{FunctionBegins}
 use Rattle.c_facts.specs.Facts.{facts_by_statement}
 
--- of a function, none where it is only declared
+-- of a body, if there is one
 abbrev pub facts_by_body : Option (Statement ℕ) → List Fact
 facts_by_body None = []
-facts_by_body (Some body) = FunctionBegins ∷ facts_by_statement body
+facts_by_body (Some body) = facts_by_statement body
 
 abbrev pub facts_by_function : FunctionData → List Fact
 facts_by_function f = facts_by_body f.body
@@ -25,7 +25,7 @@ abbrev pub facts_at : ProgramData → ℕ → List Fact
 facts_at p number = facts_of_any (slice_get p.functions number)
 
 abbrev pub facts_in : ProgramData → List Defined → List Fact
-facts_in p order = flat_map (λ f. facts_at p f.number) order
+facts_in p order = flat_map (λ f. FunctionBegins ∷ facts_at p f.number) order
 
 abbrev pub facts_of : ProgramData → List Fact
 facts_of p = facts_in p (profile_order p)

@@ -17,10 +17,7 @@ fn body(found: &mut Found, f: &Function)
 {
     match &f.body {
         None => {}
-        Some(body) => {
-            put(found, Fact::FunctionBegins);
-            statement(found, body);
-        }
+        Some(body) => statement(found, body),
     }
 }
 
@@ -37,6 +34,7 @@ fn functions(found: &mut Found, p: &Typed, order: &[Defined])
     ensures { Puts found.old found.new (facts_in (program_data p.now) order.now) }
 {
     for defined in order {
+        put(found, Fact::FunctionBegins);
         function(found, p, defined.number);
     }
 }
