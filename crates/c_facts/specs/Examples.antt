@@ -15,6 +15,7 @@ use Rattle.c_facts.specs.declared.contexts.Context.TheVariants.{Plain}
 use Rattle.c_facts.specs.declared.fact.Fact.{Fact}
 use Rattle.c_facts.specs.declared.fact.Fact.TheVariants as F
 use Rattle.c_facts.specs.Facts.{effect, facts_by_expression, facts_by_statement}
+use Rattle.c_facts.specs.Groups.{StartsPlainly, groups_in}
 use Rattle.c_facts.specs.Programs.{facts_of}
 
 -- ---- types by their numbers
@@ -249,3 +250,13 @@ example_program : facts_of program ≡
     F.FunctionBegins ∷ F.LoopBegins ∷ F.Value to_record ∷ F.Value int ∷ F.LoopEnds
     ∷ F.FunctionBegins ∷ F.Value int ∷ F.Site 0 0 true ∷ F.Value to_record ∷ []
 example_program = refl
+
+-- a profile of the program has a count for g, one for its loop and one for h
+example_groups : groups_in (facts_of program) ≡ 3
+example_groups = refl
+
+plain : Unit {0}
+plain = tt
+
+example_plain : StartsPlainly loops
+example_plain = (plain, (plain, plain))

@@ -15,8 +15,10 @@ mod fact;
 mod fields;
 mod found;
 mod functions;
+mod laws;
 mod statements;
 mod variables;
 
 pub use fact::Fact;
 pub use functions::facts;
+pub use laws::groups_meet_counts;
