@@ -3,7 +3,8 @@
 //! that list, and no tree.
 //!
 //! It stands on `lay_base` and `c_typed`. It promises that the list is the one that its definition says (`facts_of`), in the order of the functions in
-//! profiles and, in each, of its text, so that the counts of a profile meet the functions and loops one by one; or that memory is out.
+//! profiles and, in each, of its text, or that memory is out; and that where a profile fits the program, the functions and loops that the list begins are as
+//! many as the profile's counts (`groups_meet_counts`).
 //!
 //! Initial values of objects are in no tree: what those say stands in the program's mentions.
 #![tactic(auto)]
