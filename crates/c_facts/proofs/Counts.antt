@@ -65,7 +65,8 @@ begun_at (f ∷ fs) h (suc n) = begun_at fs (All-tail (λ f. BodyStartsPlainly f
 begun_among : (p : ProgramData) → LoopsStartPlainly p → (order : List Defined) → map (λ f. groups_in (facts_at p f.number)) order ≡ loops_among p order
 begun_among p h [] = refl
 begun_among p h (d ∷ more) =
-    ap (λ n. n ∷ map (λ f. groups_in (facts_at p f.number)) more) (begun_at p.functions h d.number) ∙ ap (λ xs. loops_at p d.number ∷ xs) (begun_among p h more)
+    ap (λ n. n ∷ map (λ f. groups_in (facts_at p f.number)) more) (begun_at p.functions h d.number)
+    ∙ ap (λ xs. loops_at p d.number ∷ xs) (begun_among p h more)
 
 pub loops_meet_counts : LoopsMeetCounts
 loops_meet_counts c p h fits = begun_among p h (profile_order p) ∙ loops_fit c p fits
