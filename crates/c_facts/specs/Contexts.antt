@@ -15,12 +15,12 @@ use Rattle.c_facts.specs.declared.contexts.Context.TheVariants.{Plain, Permitted
 
 -- ---- the parts of these ways
 
--- v, as what is assigned; it is an object of the program, and no local without a block of its own
+-- v, as what is assigned: an object that is there from the start of the program (C99 6.2.4)
 abbrev pub is_object : Path ℕ → Bool
 is_object (T.path t at (T.object n)) = true
 is_object p = false
 
--- v, for its value (C99 6.3.2.1)
+-- v, for its value (6.3.2.1)
 abbrev pub is_variable : Expression ℕ → Bool
 is_variable (T.expression t at (T.load p)) = is_object p
 is_variable e = false
