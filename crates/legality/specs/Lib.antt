@@ -1,0 +1,6 @@
+pub mod InTypes
+pub mod Holdings
+pub mod Breaches
+pub mod Firsts
+pub mod Verdicts
+mod Examples
