@@ -13,7 +13,7 @@ use crate::mentions::mark_mentions;
 use crate::violation::Violation;
 use c_facts::Fact;
 use c_typed::Typed;
-use lay_base::{List, NoMemory, add};
+use lay_base::{List, NoMemory};
 use std::alloc::Global;
 
 /// For each record of a program its first violation; none where it is legal.
@@ -37,18 +37,17 @@ impl Verdicts {
 fn nothing_found(alloc: Global, count: u32) -> Result<List<Option<Violation>>, NoMemory>
     ensures { IfOk result (λ firsts. firsts ≡ replicate count None) }
 {
-    let mut firsts = List::new(alloc);
-    for _ in 0..count {
-        add(&mut firsts, None)?;
+    match vec![in alloc; None; count as usize] {
+        Ok(firsts) => Ok(List::of(firsts)),
+        Err(_) => Err(NoMemory),
     }
-    Ok(firsts)
 }
 
 fn firsts(alloc: Global, p: &Typed, facts: &[Fact]) -> Result<List<Option<Violation>>, NoMemory>
     ensures { IfOk result (λ firsts. firsts ≡ fold marked (replicate (length p.now.records) None) (breaches_by (program_data p.now) facts.now)) }
 {
-    let holdings = holdings_of(alloc, p.records.as_slice())?;
     let mut list = nothing_found(alloc, p.records.len())?;
+    let holdings = holdings_of(alloc, p.records.as_slice())?;
     let firsts = list.as_mut_vec().as_mut_slice();
     let types = p.types.as_slice();
     mark_facts(firsts, types, facts);
@@ -58,6 +57,7 @@ fn firsts(alloc: Global, p: &Typed, facts: &[Fact]) -> Result<List<Option<Violat
 }
 
 /// The verdicts on the records of a program, of whose functions the facts are given.
+#[tactic(auto, using(crate::proofs::Kept::are_verdicts))]
 pub fn judge(alloc: Global, p: &Typed, facts: &[Fact]) -> Result<Verdicts, NoMemory>
     ensures { IfOk result (λ v. AreVerdicts (breaches_by (program_data p.now) facts.now) (length p.now.records) v.list) }
 {
