@@ -1,12 +1,12 @@
 -- The first violation of a record among some is one of them, and none of the record's stands before it.
 use Rattle.std.proofs.Common.{◌≡◌, Option, Some, None, ap, ℕ, ◌<◌, ◌≤◌, ◌⊎◌, inl, inr, Bool, true, false, ◌||◌, ◌&&◌, ◌==◌, nat_lt, List, [], ◌∷◌, refl, sym, ◌∙◌, subst, arith}
-use Rattle.std.specs.Prelude.{if◌then◌else◌, MatchOption}
+use Rattle.std.specs.Prelude.{if◌then◌else◌}
 use Rattle.std.proofs.lemmas.Bool.{eqb-true, eqb-false, ltb-true, ltb-false}
 use Rattle.c_typed.specs.RunCounts.Order.{is_less_or}
 use Rattle.legality.specs.declared.violation.Violation.{Violation}
 use Rattle.legality.specs.Breaches.{Breach, IsIn, breach}
 use Rattle.legality.specs.Firsts.{former, row, stands_before}
-use Rattle.legality.specs.Verdicts.{IsFirst, HasNone, Judges}
+use Rattle.legality.specs.Verdicts.{Judges}
 
 -- the first of a record among some, where the best before them is known
 abbrev pub first_among : (best : Option Violation) → (number : ℕ) → List Breach → Option Violation

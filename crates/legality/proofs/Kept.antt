@@ -1,5 +1,5 @@
 -- What is kept of each record is the first of its violations.
-use Rattle.std.proofs.Common.{◌≡◌, Option, Some, None, ap, ℕ, zero, suc, ◌<◌, length, replicate, ◌==◌, Bool, true, false, List, [], ◌∷◌, refl, sym, ◌∙◌, subst, rules}
+use Rattle.std.proofs.Common.{◌≡◌, Option, Some, None, ap, ℕ, zero, suc, length, replicate, ◌==◌, Bool, true, false, List, [], ◌∷◌, refl, sym, ◌∙◌, subst, rules}
 use Rattle.std.specs.Prelude.{if◌then◌else◌, fold, slice_get, slice_set}
 use Rattle.std.specs.Option.{option_map}
 use Rattle.std.proofs.lemmas.Bool.{eqb-true, eqb-false}

@@ -1,6 +1,6 @@
 -- Which records hold which by value: as fields, as elements of arrays in them, and through records that do.
-use Rattle.std.specs.Prelude.{ℕ, ◌==◌, Bool, true, false, ◌||◌, if◌then◌else◌, List, [], ◌∷◌, ◌++◌, fold, length, get_or}
-use Rattle.c_types.specs.Types.{CType, pointer, array, structure, Field, Record}
+use Rattle.std.specs.Prelude.{ℕ, ◌==◌, Bool, false, ◌||◌, if◌then◌else◌, List, [], ◌∷◌, ◌++◌, fold, length, get_or}
+use Rattle.c_types.specs.Types.{CType, array, structure, Field, Record}
 
 abbrev pub is_among : ℕ → List ℕ → Bool
 is_among r [] = false

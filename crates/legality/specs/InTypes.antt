@@ -1,6 +1,6 @@
 -- The records of which a type speaks. A record T is a structure, by its number.
 use Rattle.std.specs.Prelude.{ℕ, List, [], ◌∷◌, ◌++◌}
-use Rattle.c_types.specs.Types.{CType, CTypes, void, integer, pointer, array, function, structure, no_types, and_type}
+use Rattle.c_types.specs.Types.{CType, CTypes, pointer, array, function, structure, no_types, and_type}
 
 -- T of T
 abbrev pub itself : CType → List ℕ

@@ -1,4 +1,4 @@
-use Rattle.std.proofs.Common.{◌≡◌, ◌+◌, ◌≤◌, drop, fold, length}
+use Rattle.std.proofs.Common.{◌≡◌, drop, fold, length}
 use Rattle.c_types.specs.Views.{records_of}
 use Rattle.legality.specs.Holdings.{holdings_of, with_record}
 use Rattle.legality.proofs.holdings.holdings_of.Given as goal
