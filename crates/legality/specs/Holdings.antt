@@ -1,5 +1,6 @@
 -- Which records hold which by value: as fields, as elements of arrays in them, and through records that do.
-use Rattle.std.specs.Prelude.{ℕ, ◌==◌, Bool, false, ◌||◌, if◌then◌else◌, List, [], ◌∷◌, ◌++◌, fold, length, get_or}
+use Rattle.std.specs.Prelude.{◌≡◌, ◌⊎◌, ◌↔◌, ℕ, ◌==◌, Bool, true, false, ◌||◌, if◌then◌else◌, IsTrue, List, [], ◌∷◌, ◌++◌, Some, fold, length, get_or, slice_get}
+use Rattle.c_types.specs.Objects.{is_object}
 use Rattle.c_types.specs.Types.{CType, array, structure, Field, Record}
 
 abbrev pub is_among : ℕ → List ℕ → Bool
@@ -26,3 +27,21 @@ with_record holdings r = holdings ++ fold (with_field holdings) (length holdings
 
 abbrev pub holdings_of : List Record → List (List ℕ)
 holdings_of records = fold with_record [] records
+
+-- ---- what that is
+
+abbrev pub IsFieldOf : Field → List Field → Type 0
+IsFieldOf f [] = ⊥
+IsFieldOf f (g ∷ more) = (f ≡ g) ⊎ IsFieldOf f more
+
+-- an object of a type is a record, or holds one by value
+pub data Holds (records : List Record) : CType → ℕ → Type 0 where
+  itself : (r : ℕ) → Holds records (structure r) r
+  in_element : (t : CType) → (n r : ℕ) → Holds records t r → Holds records (array t n) r
+  in_field : (s r : ℕ) → (owner : Record) → (f : Field) → slice_get records s ≡ Some owner → IsFieldOf f owner.fields → Holds records f.ty r
+      → Holds records (structure s) r
+
+-- just what each object type holds is found
+abbrev pub HoldingsAreExact : List Record → Type 0
+HoldingsAreExact records = (t : CType) (r : ℕ) → IsTrue (is_object (length records) t)
+    → (is_among r (held_in (holdings_of records) t) ≡ true) ↔ Holds records t r

@@ -11,9 +11,11 @@ mod facts;
 mod fields;
 mod holdings;
 mod judging;
+mod laws;
 mod marks;
 mod mentions;
 mod violation;
 
 pub use judging::{Verdicts, judge};
+pub use laws::holdings_are_exact;
 pub use violation::{Test, Violation};
