@@ -1,5 +1,4 @@
--- Which tests a record violates, and where (own): one case for each row of the table of tests. A record that passes all is seen, with its size and the pointers to it, by nothing
--- but accesses to its fields.
+-- Which tests a record violates, and where (own). Of a record that violates none, nothing but accesses to its fields sees its size or pointers to it.
 use Rattle.std.specs.Prelude.{ℕ, ◌+◌, not, ◌&&◌, if◌then◌else◌, ◌≡◌, ◌⊎◌, List, [], ◌∷◌, ◌++◌, map, flat_map, Option, Some, None, slice_get}
 use Rattle.lay_base.specs.declared.place.Place.{Place}
 use Rattle.c_types.specs.Types.{CType, Field, Record}

@@ -1,8 +1,8 @@
 //! Which records of a program may be laid out anew: those that violate none of ten tests. A record passes them all where nothing but accesses to its fields
 //! sees its size, a pointer to it or an object of it.
 //!
-//! It stands on `c_facts`, `c_typed`, `c_types` and `lay_base`. It promises that a record has a verdict exactly where it violates a test, and that the verdict is
-//! the first of its violations, by file, by byte and then in the order of the tests (`AreVerdicts`).
+//! It stands on `c_facts`, `c_typed`, `c_types` and `lay_base`. It promises that a record has a verdict exactly where it violates a test, and that the verdict
+//! is the first of its violations, by file, by byte and then in the order of the tests (`AreVerdicts`).
 //!
 //! Not proved: that a record without a violation can be laid out anew with no change to what a program does. That is said of the rewritings.
 #![tactic(auto)]
