@@ -1,4 +1,4 @@
--- Which tests a record violates, and where (own). Of a record that violates none, nothing but accesses to its fields sees its size or pointers to it.
+-- Which tests a record violates, and where (own): by what is said in functions, by what is said outside of them, and by the fields of records.
 use Rattle.std.specs.Prelude.{ℕ, ◌+◌, not, ◌&&◌, if◌then◌else◌, ◌≡◌, ◌⊎◌, List, [], ◌∷◌, ◌++◌, map, flat_map, Option, Some, None, slice_get}
 use Rattle.lay_base.specs.declared.place.Place.{Place}
 use Rattle.c_types.specs.Types.{CType, Field, Record}

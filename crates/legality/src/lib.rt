@@ -1,5 +1,6 @@
-//! Which records of a program may be laid out anew: those that violate none of ten tests. A record passes them all where nothing but accesses to its fields
-//! sees its size, a pointer to it or an object of it.
+//! Which records of a program may be laid out anew: those that violate none of ten tests. The tests are the ways in which a program could come to see how
+//! the fields of a record lie: by a pointer to it as one of another type, the address of a field, its size, an object or an array of it, or by records
+//! within records.
 //!
 //! It stands on `c_facts`, `c_typed`, `c_types` and `lay_base`. It promises that a record has a verdict exactly where it violates a test, and that the verdict
 //! is the first of its violations, by file, by byte and then in the order of the tests (`AreVerdicts`).
