@@ -1,5 +1,5 @@
 #!/usr/bin/env python3
-"""Makes what the program `crates/front_rows` is run on, and what it has to print, from `checker_rows/*.txt` and `profile_rows.txt`.
+"""Makes what the program `crates/front_rows` is run on, and what it has to print, from `checker_rows/*.txt`, `profile_rows.txt` and `verdict_rows.txt`.
 
 With `--check` it writes nothing, and the exit status is 1 where a file is another than the rows have it."""
 
@@ -13,6 +13,13 @@ from checking import HERE
 
 # Rows as they stand on the input, each with what has to be printed after its name below it, after `=`.
 PROFILE_ROWS = os.path.join(HERE, "tools", "profile_rows.txt")
+# Rows on records, as that file says.
+VERDICT_ROWS = os.path.join(HERE, "tools", "verdict_rows.txt")
+DECLARATIONS = (
+    "void *malloc(unsigned);void *memset(void *,int,unsigned);int memcmp(const void *,const void *,unsigned);"
+    "struct S{int x;int y[2];};int g(struct S *a){return a->x;}"
+)
+MAIN = "int main(void){struct S *p=malloc(sizeof(struct S)),*q=p;char *c=0;"
 # Of a character that stands more often than this the number is written.
 MOST_TIMES = 200
 
@@ -75,8 +82,47 @@ def of_profile_rows():
         yield lines.split("\n")[0].split(" ")[1], lines, answer + end
 
 
+def marked_files(lines):
+    """The name of each file of a row on records, and its text with its marks."""
+    parts = {"before": "", "main": ""}
+    files = []
+    for line in lines:
+        word, _, text = line.partition(" ")
+        if word == "file":
+            files.append(text.split(" ", 1))
+        else:
+            parts[word] = text
+    return files or [("t.c", f"{DECLARATIONS}{parts['before']}{MAIN}{parts['main']} return 0;}}")]
+
+
+def marks_in(name, text):
+    """Where the marks of a file stand, as text, without regard to themselves."""
+    return [f"{name} {at.start() - count}" for count, at in enumerate(re.finditer("@", text))]
+
+
+def of_verdict_rows():
+    """The same of each row on records."""
+    text = re.sub(r"(?m)^#.*\n", "", row_files.text_in(VERDICT_ROWS))
+    for block in text.strip().split("\n\n"):
+        lines, _, answer = block.strip().partition("\n= ")
+        row_name, *lines = lines.split("\n")
+        files = marked_files(lines)
+        marks = [mark for name, text in files for mark in marks_in(name, text)]
+        asked_lines = [f"judge {row_name}"]
+        for name, text in files:
+            asked_lines += [f"file {name}", f"|{text.replace('@', '')}"]
+        words = answer.split()
+        verdicts = ""
+        for tag, test in zip(words[::2], words[1::2]):
+            verdicts += f" {tag} {test}"
+            if test != "legal":
+                verdicts += f" at {marks[0]}"
+                marks = marks[1:] or marks
+        yield row_name, "\n".join(asked_lines), verdicts
+
+
 def main():
-    rows = [*of_checker_rows(), *of_profile_rows()]
+    rows = [*of_checker_rows(), *of_profile_rows(), *of_verdict_rows()]
     assert len({name for name, _, _ in rows}) == len(rows), "two rows have one name"
     return row_files.main("front_rows", [f"{block}\n" for _, block, _ in rows], [f"{name}:{answer}\n" for name, _, answer in rows])
 

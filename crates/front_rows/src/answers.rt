@@ -5,6 +5,7 @@ ghost use Rattle.std.specs.Prelude.{◌≤◌, All, IsTrue, length};
 use crate::faults::{Spots, put_fault};
 use crate::program_text::put_program;
 use crate::row::{Question, Row};
+use crate::verdicts::put_verdicts;
 use c_link::Gap;
 use c_typed::Typed;
 use lay_base::{File, Files};
@@ -20,11 +21,13 @@ pub fn are_within_bounds(files: &[File]) -> bool
     files.len() <= 64 && files.iter().all(|file| file.bytes.len() <= 4_194_304)
 }
 
-fn put_of_program(out: &mut Writer, alloc: Global, question: Question, program: &Typed) {
-    match question {
+fn put_of_program(out: &mut Writer, alloc: Global, row: &Row, files: &[File], program: &Typed) {
+    let places = row.places.as_slice();
+    match row.question {
         Question::Check => out.word("accepted"),
         Question::Link => out.word("program"),
         Question::Show => put_program(out, alloc, program),
+        Question::Judge => put_verdicts(out, alloc, Spots { files, places }, program),
     }
 }
 
@@ -49,7 +52,7 @@ fn put_of_files(out: &mut Writer, alloc: Global, row: &Row, files: &Files) {
         return out.word("too many files or bytes");
     }
     match front(alloc, files) {
-        Ok(program) => put_of_program(out, alloc, row.question, &program),
+        Ok(program) => put_of_program(out, alloc, row, files.as_slice(), &program),
         Err(fault) => put_of_fault(out, row, files.as_slice(), &fault),
     }
 }

@@ -32,7 +32,7 @@ fn put_byte(out: &mut Writer, places: &[u32], at: u32) {
 }
 
 /// `at`, the name of the file, and the byte.
-fn put_place(out: &mut Writer, spots: Spots<'_>, place: Place) {
+pub fn put_place(out: &mut Writer, spots: Spots<'_>, place: Place) {
     out.word("at");
     match spots.files.get(place.file as usize) {
         Some(file) => out.bytes(file.name.as_slice()),

@@ -12,6 +12,8 @@ pub enum Question {
     Link,
     /// Which program they are.
     Show,
+    /// Which of its records may be laid out anew.
+    Judge,
 }
 
 /// What a row says beside its files. A fault may stand at any of its places, where it has some.
@@ -27,6 +29,7 @@ fn question_of(word: &str) -> Result<Question, RowFault> {
         "check" => Ok(Question::Check),
         "link" => Ok(Question::Link),
         "show" => Ok(Question::Show),
+        "judge" => Ok(Question::Judge),
         _ => Err(RowFault::NoRow),
     }
 }
