@@ -18,7 +18,7 @@ use std::io::{self, Write};
 const LONGEST: usize = 67_108_864;
 
 /// The most functions that a program may have here, as many as its nodes may be.
-const MOST_FUNCTIONS: usize = 131_072;
+pub const MOST_FUNCTIONS: usize = 131_072;
 
 /// What is asked of the text of a profile.
 #[derive(Clone, Copy)]

@@ -1,15 +1,15 @@
 //! The verdicts on the records of a program, as text.
 
+ghost use Rattle.std.specs.Prelude.{◌<◌, ◌^◌, length};
+
 use crate::faults::{Spots, put_place};
+use crate::profiles::MOST_FUNCTIONS;
 use c_facts::facts;
 use c_typed::Typed;
 use lay_base::NoMemory;
 use legality::{Test, Verdicts, judge};
 use row_lines::Writer;
 use std::alloc::Global;
-
-/// The most functions that a program may have here, as many as its nodes may be.
-const MOST_FUNCTIONS: usize = 131_072;
 
 fn word_of(test: Test) -> &'static str {
     match test {
@@ -26,27 +26,31 @@ fn word_of(test: Test) -> &'static str {
     }
 }
 
-fn verdicts_on(alloc: Global, program: &Typed) -> Result<Verdicts, NoMemory> {
-    if program.functions.len() > MOST_FUNCTIONS {
-        return Err(NoMemory);
-    }
+fn verdicts_on(alloc: Global, program: &Typed) -> Result<Verdicts, NoMemory>
+    requires { length program.now.functions < 2 ^ 32 }
+{
     let all = facts(alloc, program)?;
     judge(alloc, program, all.as_slice())
 }
 
 /// Each record by its tag, with the first of its violations.
 pub fn put_verdicts(out: &mut Writer, alloc: Global, spots: Spots<'_>, program: &Typed) {
+    if program.functions.len() > MOST_FUNCTIONS {
+        return out.word("too many functions");
+    }
     let Ok(verdicts) = verdicts_on(alloc, program) else {
         return out.word("out of memory");
     };
-    for (number, record) in program.records.as_slice().iter().enumerate() {
+    let mut number: u32 = 0;
+    for record in program.records.as_slice() {
         out.bytes(record.tag.as_slice());
-        match verdicts.of(number as u32) {
+        match verdicts.of(number) {
             None => out.word("legal"),
             Some(violation) => {
                 out.word(word_of(violation.test));
                 put_place(out, spots, violation.place);
             }
         }
+        number = number.saturating_add(1);
     }
 }
