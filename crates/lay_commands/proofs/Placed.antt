@@ -1,6 +1,6 @@
 -- Where the files are known, each place of a refusal is one of the files with tokens before it, so its text is that of the place.
 use Rattle.std.proofs.Common.{◌≡◌, ℕ, true, List, Option, Some, None, sym, subst, inl, inr, refl}
-use Rattle.std.specs.Prelude.{Err, slice_get}
+use Rattle.std.specs.Prelude.{Err}
 use Rattle.c_typed.specs.declared.run_counts.counts.Counts.{Counts}
 use Rattle.c_tokens.specs.TokenPlaces.{IsPlaceOf}
 use Rattle.c_link.specs.Programs.{IsProgramOf}
