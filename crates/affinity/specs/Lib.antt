@@ -1,0 +1,7 @@
+pub mod Accesses
+pub mod GroupWeights
+pub mod Sums
+pub mod Weighing
+pub mod Walking
+pub mod Touched
+mod Examples

@@ -1,0 +1,16 @@
+//! How often the fields of records are accessed, alone and two together, by a profile or by the depths of loops.
+//!
+//! It stands on `c_facts`, `c_typed` and `lay_base`. It promises that the accesses and the weights of their groups are those of the definitions (`Weighs`), or
+//! that memory is out; and that hotness, affinity and whether a field is read are exactly the sums and the search that their definitions say.
+//!
+//! Not proved: that a program spends its time so. Weights only choose between layouts that are all right.
+#![tactic(auto)]
+
+mod access;
+mod profile;
+mod sums;
+mod walking;
+mod weights;
+
+pub use access::Access;
+pub use weights::{Weights, weigh};

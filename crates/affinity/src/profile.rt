@@ -1,0 +1,35 @@
+//! The weights of groups by a profile.
+
+ghost use Rattle.std.specs.Prelude.{◌≡◌, ◌++◌, ◌∷◌, [], IfOk, OnOk};
+ghost use Rattle.c_facts.specs.Groups.{counts_in};
+
+use c_typed::{Counts, FunCount};
+use lay_base::{List, NoMemory, add};
+use std::alloc::Global;
+
+fn add_all(all: &mut List<u64>, more: &[u64]) -> Result<(), NoMemory>
+    ensures { OnOk result (all.new ≡ all.old ++ more.now) }
+{
+    for count in more {
+        add(all, *count)?;
+    }
+    Ok(())
+}
+
+fn add_function(all: &mut List<u64>, f: &FunCount) -> Result<(), NoMemory>
+    ensures { OnOk result (all.new ≡ all.old ++ f.now.entries ∷ f.now.loops) }
+{
+    add(all, f.entries)?;
+    add_all(all, f.loops.as_slice())
+}
+
+/// The counts one behind the other: of each function its entries, then those of its loops.
+pub fn counts_in(alloc: Global, counts: &Counts) -> Result<List<u64>, NoMemory>
+    ensures { IfOk result (λ all. all ≡ counts_in counts.now) }
+{
+    let mut all = List::new(alloc);
+    for f in counts.functions.as_slice() {
+        add_function(&mut all, f)?;
+    }
+    Ok(all)
+}

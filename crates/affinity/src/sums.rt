@@ -1,0 +1,129 @@
+//! Sums of the weights of groups.
+
+ghost use Rattle.std.specs.Prelude.{◌≡◌, ◌&&◌, if◌then◌else◌, IfOk, false, fold, length, replicate};
+ghost use Rattle.affinity.specs.GroupWeights.{weight_of};
+ghost use Rattle.affinity.specs.Sums.{affinity, hotness, is_read};
+ghost use Rattle.affinity.specs.Touched.{common, is_marked, marked};
+
+use crate::access::{Access, is_to};
+use lay_base::{List, NoMemory};
+use std::alloc::Global;
+
+/// The weight of a group, 0 where there is none.
+fn weight_of(weights: &[u64], group: u32) -> u64
+    ensures { result ≡ weight_of weights.now group }
+{
+    match weights.get(group as usize) {
+        Some(weight) => *weight,
+        None => 0,
+    }
+}
+
+/// The sum over a field's accesses.
+pub fn hotness(weights: &[u64], of: u32, field: u32, all: &[Access]) -> u128
+    ensures { result ≡ hotness weights.now of field all.now }
+{
+    let mut sum: u128 = 0;
+    for a in all {
+        if is_to(*a, of, field) {
+            sum += u128::from(weight_of(weights, a.group));
+        }
+    }
+    sum
+}
+
+pub fn is_read(of: u32, field: u32, all: &[Access]) -> bool
+    ensures { result ≡ is_read of field all.now }
+{
+    for a in all {
+        if is_to(*a, of, field) && a.is_read {
+            return true;
+        }
+    }
+    false
+}
+
+fn mark(marks: &mut [bool], of: u32, field: u32, a: Access)
+    ensures { marks.new ≡ marked of field marks.old a }
+{
+    let group = a.group as usize;
+    if is_to(a, of, field) && group < marks.len() {
+        marks[group] = true;
+    }
+}
+
+fn mark_all(marks: &mut [bool], of: u32, field: u32, all: &[Access])
+    ensures { marks.new ≡ fold (marked of field) marks.old all.now }
+{
+    for a in all {
+        mark(marks, of, field, *a);
+    }
+}
+
+/// Which of so many groups access a field.
+fn touched(
+    alloc: Global,
+    count: usize,
+    of: u32,
+    field: u32,
+    all: &[Access],
+) -> Result<List<bool>, NoMemory>
+    ensures { IfOk result (λ marks. marks ≡ fold (marked of field) (replicate count false) all.now) }
+{
+    match vec![in alloc; false; count] {
+        Err(_) => Err(NoMemory),
+        Ok(marks) => {
+            let mut marks = List::of(marks);
+            mark_all(marks.as_mut_vec().as_mut_slice(), of, field, all);
+            Ok(marks)
+        }
+    }
+}
+
+fn is_marked(marks: &[bool], group: usize) -> bool
+    ensures { result ≡ is_marked marks.now group }
+{
+    match marks.get(group) {
+        Some(mark) => *mark,
+        None => false,
+    }
+}
+
+/// The weight of a group if it has both marks, else 0.
+fn common_weight(weight: u64, ones: &[bool], others: &[bool], group: usize) -> u64
+    ensures { result ≡ (if is_marked ones.now group && is_marked others.now group then weight else 0) }
+{
+    if is_marked(ones, group) && is_marked(others, group) {
+        weight
+    } else {
+        0
+    }
+}
+
+/// The sum over the groups that have both marks.
+fn common(weights: &[u64], ones: &[bool], others: &[bool]) -> u128
+    ensures { result ≡ common 0 weights.now ones.now others.now }
+{
+    let mut sum: u128 = 0;
+    for (group, weight) in weights.iter().enumerate() {
+        sum += u128::from(common_weight(*weight, ones, others, group));
+    }
+    sum
+}
+
+/// The sum over the groups that access both fields.
+#[tactic(auto, using(crate::proofs::Common::common_is_affinity))]
+pub fn affinity(
+    alloc: Global,
+    weights: &[u64],
+    of: u32,
+    one: u32,
+    other: u32,
+    all: &[Access],
+) -> Result<u128, NoMemory>
+    ensures { IfOk result (λ sum. sum ≡ affinity weights.now of one other all.now) }
+{
+    let ones = touched(alloc, weights.len(), of, one, all)?;
+    let others = touched(alloc, weights.len(), of, other, all)?;
+    Ok(common(weights, ones.as_slice(), others.as_slice()))
+}

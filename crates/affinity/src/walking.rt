@@ -1,0 +1,140 @@
+//! The walk over the facts: accesses and their groups.
+
+ghost use Rattle.std.specs.Prelude.{◌≡◌, ◌∷◌, [], false, length};
+ghost use Rattle.c_facts.specs.declared.fact.Fact.TheVariants as F;
+ghost use Rattle.affinity.specs.GroupWeights.{guess};
+ghost use Rattle.affinity.specs.Walking.{Opens, Walks};
+
+use crate::access::Access;
+use c_facts::Fact;
+use lay_base::List;
+use std::alloc::Global;
+
+/// The groups around the open one, innermost last; the open one; the guessed weights of all; the accesses; and whether memory was out.
+#[derive(Drop)]
+pub struct Walk {
+    pub outer: List<u32>,
+    pub inner: u32,
+    pub weights: List<u64>,
+    pub accesses: List<Access>,
+    pub full: bool,
+}
+
+/// The weight of a loop at a depth, or of a function, which is at none.
+fn guess(depth: usize) -> u64
+    ensures { result ≡ guess depth }
+{
+    match depth {
+        0 => 1,
+        1 => 10,
+        2 => 100,
+        3 => 1_000,
+        4 => 10_000,
+        5 => 100_000,
+        6 => 1_000_000,
+        7 => 10_000_000,
+        _ => 100_000_000,
+    }
+}
+
+/// Begins a group. There are never as many as 2^32: facts fit in memory.
+fn open(walk: &mut Walk, weight: u64)
+    ensures { Opens walk.old walk.new weight }
+{
+    if walk.full {
+        return;
+    }
+    let number = walk.weights.len();
+    if number >= 0xFFFF_FFFF || walk.weights.push(weight).is_err() {
+        walk.full = true;
+        return;
+    }
+    walk.inner = number as u32;
+}
+
+fn open_function(walk: &mut Walk)
+    ensures { Walks walk.old walk.new (F.FunctionBegins ∷ []) }
+{
+    walk.outer.as_mut_vec().clear();
+    open(walk, 1);
+}
+
+fn depth(walk: &Walk) -> usize
+    ensures { result ≡ length walk.now.outer }
+{
+    walk.outer.len()
+}
+
+#[tactic(auto, using(crate::proofs::Walked::innermost))]
+fn open_loop(walk: &mut Walk)
+    ensures { Walks walk.old walk.new (F.LoopBegins ∷ []) }
+{
+    if walk.outer.push(walk.inner).is_err() {
+        walk.full = true;
+        return;
+    }
+    let weight = guess(depth(walk));
+    open(walk, weight);
+}
+
+#[tactic(auto, using(crate::proofs::Walked::innermost))]
+fn close_loop(walk: &mut Walk)
+    ensures { Walks walk.old walk.new (F.LoopEnds ∷ []) }
+{
+    match walk.outer.pop() {
+        Some(group) => walk.inner = group,
+        None => {}
+    }
+}
+
+fn add(walk: &mut Walk, of: u32, field: u32, is_read: bool)
+    ensures { Walks walk.old walk.new (F.Site of field is_read ∷ []) }
+{
+    if walk.full {
+        return;
+    }
+    let access = Access {
+        of,
+        field,
+        is_read,
+        group: walk.inner,
+    };
+    if walk.accesses.push(access).is_err() {
+        walk.full = true;
+    }
+}
+
+fn step(walk: &mut Walk, fact: Fact)
+    ensures { Walks walk.old walk.new (fact ∷ []) }
+{
+    match fact {
+        Fact::FunctionBegins => open_function(walk),
+        Fact::LoopBegins => open_loop(walk),
+        Fact::LoopEnds => close_loop(walk),
+        Fact::Site(of, field, is_read) => add(walk, of, field, is_read),
+        _ => {}
+    }
+}
+
+fn walk_all(walk: &mut Walk, facts: &[Fact])
+    ensures { Walks walk.old walk.new facts.now }
+{
+    for fact in facts {
+        step(walk, *fact);
+    }
+}
+
+/// The whole walk.
+pub fn walked(alloc: Global, facts: &[Fact]) -> Walk
+    ensures { Walks (record { outer = []; inner = 0; weights = []; accesses = []; full = false }) result facts.now }
+{
+    let mut walk = Walk {
+        outer: List::new(alloc),
+        inner: 0,
+        weights: List::new(alloc),
+        accesses: List::new(alloc),
+        full: false,
+    };
+    walk_all(&mut walk, facts);
+    walk
+}
