@@ -1,5 +1,6 @@
 -- The groups with both marks are those that access both fields.
-use Rattle.std.proofs.Common.{◌≡◌, ap, ℕ, zero, suc, ◌+◌, ◌<◌, ◌==◌, Bool, true, false, ◌&&◌, ◌||◌, List, [], ◌∷◌, length, replicate, refl, sym, ◌∙◌, subst, arith}
+use Rattle.std.proofs.Common.{◌≡◌, ap, ℕ, zero, suc, ◌+◌, ◌<◌, ◌==◌, Bool, true, false, ◌&&◌, ◌||◌}
+use Rattle.std.proofs.Common.{List, [], ◌∷◌, length, replicate, refl, sym, ◌∙◌, subst, arith}
 use Rattle.std.specs.Prelude.{if◌then◌else◌, fold, slice_set}
 use Rattle.std.proofs.lemmas.Bool.{eqb-true, eqb-false}
 use Rattle.std.proofs.lemmas.List.{length-replicate}
@@ -52,7 +53,8 @@ module _ (of field group : ℕ) where
       go true = refl
       go false = refl
   marks_are marks (a ∷ more) h = marks_are (marked of field marks a) more (subst (λ n. group < n) (sym (step_length marks a)) h)
-      ∙ ap (λ m. m || touches of field group more) (step_marks marks a h) ∙ turn (is_to of field a && a.group == group) (is_marked marks group) (touches of field group more)
+      ∙ ap (λ m. m || touches of field group more) (step_marks marks a h)
+      ∙ turn (is_to of field a && a.group == group) (is_marked marks group) (touches of field group more)
     where
       turn : (x m t : Bool) → ((x || m) || t) ≡ (m || (x || t))
       turn true true t = refl
@@ -65,7 +67,8 @@ none_marked zero group = refl
 none_marked (suc count) zero = refl
 none_marked (suc count) (suc group) = none_marked count group
 
-marks_touch : (of field group count : ℕ) (all : List Access) → group < count → is_marked (fold (marked of field) (replicate count false) all) group ≡ touches of field group all
+marks_touch : (of field group count : ℕ) (all : List Access) → group < count
+    → is_marked (fold (marked of field) (replicate count false) all) group ≡ touches of field group all
 marks_touch of field group count all h = marks_are of field group (replicate count false) all (subst (λ n. group < n) (sym (length-replicate count false)) h)
     ∙ ap (λ m. m || touches of field group all) (none_marked count group)
 
@@ -73,8 +76,9 @@ sums_are : (group count : ℕ) (weights : List ℕ) (of one other : ℕ) (all : 
     → common group weights (fold (marked of one) (replicate count false) all) (fold (marked of other) (replicate count false) all)
     ≡ affinity_from group weights of one other all
 sums_are group count [] of one other all h = refl
-sums_are group count (weight ∷ more) of one other all h = ap (λ m. (if m && is_marked others group then weight else 0) + common (group + 1) more ones others) (marks_touch of one group count all within)
-    ∙ ap (λ m. (if touches of one group all && m then weight else 0) + common (group + 1) more ones others) (marks_touch of other group count all within)
+sums_are group count (weight ∷ more) of one other all h =
+    ap (λ m. (if m && is_marked others group then weight else 0) + rest) (marks_touch of one group count all within)
+    ∙ ap (λ m. (if touches of one group all && m then weight else 0) + rest) (marks_touch of other group count all within)
     ∙ ap (λ n. (if touches_both of one other group all then weight else 0) + n) (sums_are (group + 1) count more of one other all (omega (arith, h)))
   where
     ones : List Bool
@@ -82,6 +86,9 @@ sums_are group count (weight ∷ more) of one other all h = ap (λ m. (if m && i
 
     others : List Bool
     others = fold (marked of other) (replicate count false) all
+
+    rest : ℕ
+    rest = common (group + 1) more ones others
 
     within : group < count
     within = omega (arith, h)

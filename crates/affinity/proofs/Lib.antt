@@ -1,2 +1,3 @@
 mod Walked
 mod Common
+mod Weighed

@@ -99,7 +99,8 @@ example_apart = refl
 
 -- ---- loops one after the other stand in one group, and beyond eight the weight grows no more
 
-example_one_after_the_other : weights None (FunctionBegins ∷ LoopBegins ∷ LoopEnds ∷ LoopBegins ∷ LoopBegins ∷ LoopEnds ∷ LoopEnds ∷ []) ≡ 1 ∷ 10 ∷ 10 ∷ 100 ∷ []
+example_one_after_the_other : weights None (FunctionBegins ∷ LoopBegins ∷ LoopEnds ∷ LoopBegins ∷ LoopBegins ∷ LoopEnds ∷ LoopEnds ∷ [])
+    ≡ 1 ∷ 10 ∷ 10 ∷ 100 ∷ []
 example_one_after_the_other = refl
 
 abbrev three_begin : List Fact
@@ -132,5 +133,8 @@ a_short_profile = record { functions = record { name = codes "f"; entries = 2; l
 example_past_the_last : hot (Some a_short_profile) two_loops y ≡ 30 + 7
 example_past_the_last = refl
 
-example_together_past_the_last : together (Some a_short_profile) (FunctionBegins ∷ LoopBegins ∷ LoopEnds ∷ LoopBegins ∷ LoopEnds ∷ FunctionBegins ∷ read x ∷ read y ∷ []) x y ≡ 0
+abbrev g_reads_both : List Fact
+g_reads_both = FunctionBegins ∷ LoopBegins ∷ LoopEnds ∷ LoopBegins ∷ LoopEnds ∷ FunctionBegins ∷ read x ∷ read y ∷ []
+
+example_together_past_the_last : together (Some a_short_profile) g_reads_both x y ≡ 0
 example_together_past_the_last = refl

@@ -2,15 +2,18 @@
 //!
 //! It stands on `c_facts`, `c_typed` and `lay_base`. It promises that the accesses and the weights of their groups are those of the definitions (`Weighs`), or
 //! that memory is out; and that hotness, affinity and whether a field is read are exactly the sums and the search that their definitions say.
+//! A law: each access of a program has a weight, where a profile, if there is one, fits the program (`accesses_are_weighed`).
 //!
 //! Not proved: that a program spends its time so. Weights only choose between layouts that are all right.
 #![tactic(auto)]
 
 mod access;
+mod laws;
 mod profile;
 mod sums;
 mod walking;
 mod weights;
 
 pub use access::Access;
+pub use laws::accesses_are_weighed;
 pub use weights::{Weights, weigh};
