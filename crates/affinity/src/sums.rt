@@ -1,4 +1,4 @@
-//! Sums of the weights of groups.
+//! What the weights of groups say of fields.
 
 ghost use Rattle.std.specs.Prelude.{◌≡◌, ◌&&◌, if◌then◌else◌, IfOk, false, fold, length, replicate};
 ghost use Rattle.affinity.specs.GroupWeights.{weight_of};
@@ -6,8 +6,46 @@ ghost use Rattle.affinity.specs.Sums.{affinity, hotness, is_read};
 ghost use Rattle.affinity.specs.Touched.{common, is_marked, marked};
 
 use crate::access::{Access, is_to};
+use crate::weights::Weights;
 use lay_base::{List, NoMemory};
 use std::alloc::Global;
+
+impl Weights {
+    /// How often a field of a record is accessed: the sum of the weights of its accesses.
+    pub fn hotness(&self, of: u32, field: u32) -> u128
+        ensures { result ≡ hotness self.now.groups of field self.now.accesses }
+    {
+        let mut sum: u128 = 0;
+        for a in self.accesses.as_slice() {
+            if is_to(*a, of, field) {
+                sum += u128::from(weight_of(self.groups.as_slice(), a.group));
+            }
+        }
+        sum
+    }
+
+    /// Whether the value of a field of a record is ever loaded.
+    pub fn is_read(&self, of: u32, field: u32) -> bool
+        ensures { result ≡ is_read of field self.now.accesses }
+    {
+        for a in self.accesses.as_slice() {
+            if is_to(*a, of, field) && a.is_read {
+                return true;
+            }
+        }
+        false
+    }
+
+    /// How often two fields of a record are accessed together: the sum of the weights of the groups that access both.
+    #[tactic(auto, using(crate::proofs::Common::common_is_affinity))]
+    pub fn affinity(&self, alloc: Global, of: u32, one: u32, other: u32) -> Result<u128, NoMemory>
+        ensures { IfOk result (λ sum. sum ≡ affinity self.now.groups of one other self.now.accesses) }
+    {
+        let ones = touched(alloc, self, of, one)?;
+        let others = touched(alloc, self, of, other)?;
+        Ok(common(self.groups.as_slice(), ones.as_slice(), others.as_slice()))
+    }
+}
 
 /// The weight of a group, 0 where there is none.
 fn weight_of(weights: &[u64], group: u32) -> u64
@@ -17,30 +55,6 @@ fn weight_of(weights: &[u64], group: u32) -> u64
         Some(weight) => *weight,
         None => 0,
     }
-}
-
-/// The sum over a field's accesses.
-pub fn hotness(weights: &[u64], of: u32, field: u32, all: &[Access]) -> u128
-    ensures { result ≡ hotness weights.now of field all.now }
-{
-    let mut sum: u128 = 0;
-    for a in all {
-        if is_to(*a, of, field) {
-            sum += u128::from(weight_of(weights, a.group));
-        }
-    }
-    sum
-}
-
-pub fn is_read(of: u32, field: u32, all: &[Access]) -> bool
-    ensures { result ≡ is_read of field all.now }
-{
-    for a in all {
-        if is_to(*a, of, field) && a.is_read {
-            return true;
-        }
-    }
-    false
 }
 
 fn mark(marks: &mut [bool], of: u32, field: u32, a: Access)
@@ -60,21 +74,20 @@ fn mark_all(marks: &mut [bool], of: u32, field: u32, all: &[Access])
     }
 }
 
-/// Which of so many groups access a field.
-fn touched(
-    alloc: Global,
-    count: usize,
-    of: u32,
-    field: u32,
-    all: &[Access],
-) -> Result<List<bool>, NoMemory>
-    ensures { IfOk result (λ marks. marks ≡ fold (marked of field) (replicate count false) all.now) }
+/// Which groups access a field.
+fn touched(alloc: Global, w: &Weights, of: u32, field: u32) -> Result<List<bool>, NoMemory>
+    ensures { IfOk result (λ marks. marks ≡ fold (marked of field) (replicate (length w.now.groups) false) w.now.accesses) }
 {
-    match vec![in alloc; false; count] {
+    match vec![in alloc; false; w.groups.len()] {
         Err(_) => Err(NoMemory),
         Ok(marks) => {
             let mut marks = List::of(marks);
-            mark_all(marks.as_mut_vec().as_mut_slice(), of, field, all);
+            mark_all(
+                marks.as_mut_vec().as_mut_slice(),
+                of,
+                field,
+                w.accesses.as_slice(),
+            );
             Ok(marks)
         }
     }
@@ -109,21 +122,4 @@ fn common(weights: &[u64], ones: &[bool], others: &[bool]) -> u128
         sum += u128::from(common_weight(*weight, ones, others, group));
     }
     sum
-}
-
-/// The sum over the groups that access both fields.
-#[tactic(auto, using(crate::proofs::Common::common_is_affinity))]
-pub fn affinity(
-    alloc: Global,
-    weights: &[u64],
-    of: u32,
-    one: u32,
-    other: u32,
-    all: &[Access],
-) -> Result<u128, NoMemory>
-    ensures { IfOk result (λ sum. sum ≡ affinity weights.now of one other all.now) }
-{
-    let ones = touched(alloc, weights.len(), of, one, all)?;
-    let others = touched(alloc, weights.len(), of, other, all)?;
-    Ok(common(weights, ones.as_slice(), others.as_slice()))
 }
