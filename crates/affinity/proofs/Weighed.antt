@@ -9,7 +9,7 @@ use Rattle.c_typed.specs.Programs.{ProgramData}
 use Rattle.c_typed.specs.RunCounts.Order.{profile_order}
 use Rattle.c_facts.specs.declared.fact.Fact.{Fact}
 use Rattle.c_facts.specs.declared.fact.Fact.TheVariants as F
-use Rattle.c_facts.specs.Groups.{GroupsMeetCounts, LoopsStartPlainly, groups_in}
+use Rattle.c_facts.specs.Groups.{GroupsMeetCounts, groups_in}
 use Rattle.c_facts.specs.Programs.{facts_at, facts_in, facts_of}
 use Rattle.affinity.specs.declared.access.Access.{Access}
 use Rattle.affinity.specs.Accesses.{access, accesses, accesses_in}
@@ -76,11 +76,11 @@ all_lie_below p (d ∷ more) =
 
 -- ---- and there are as many weights
 
-weights_meet_groups : GroupsMeetCounts → (counts : Option Counts) (p : ProgramData) → LoopsStartPlainly p → FitsIfAny counts p
+weights_meet_groups : GroupsMeetCounts → (counts : Option Counts) (p : ProgramData) → FitsIfAny counts p
     → groups_in (facts_of p) ≡ length (weights counts (facts_of p))
-weights_meet_groups meet None p plain fits = sym (guesses_meet_groups 0 (facts_of p))
-weights_meet_groups meet (Some c) p plain fits = meet c p plain fits
+weights_meet_groups meet None p fits = sym (guesses_meet_groups 0 (facts_of p))
+weights_meet_groups meet (Some c) p fits = meet c p fits.0 fits.1
 
 pub accesses_are_weighed : GroupsMeetCounts → AccessesAreWeighed
-accesses_are_weighed meet counts p plain fits = subst (λ n. LieBelow n (accesses_in (facts_of p))) (weights_meet_groups meet counts p plain fits)
+accesses_are_weighed meet counts p fits = subst (λ n. LieBelow n (accesses_in (facts_of p))) (weights_meet_groups meet counts p fits)
     (all_lie_below p (profile_order p))

@@ -5,7 +5,7 @@ use Rattle.c_facts.specs.declared.fact.Fact.{Fact}
 use Rattle.c_facts.specs.declared.fact.Fact.TheVariants as F
 use Rattle.c_facts.specs.Groups.{counts_in}
 
--- of a loop in so many loops less one; 0 stands for a function
+-- of a loop at a depth: one in no other is at depth 1; of a function, at depth 0
 abbrev pub guess : (depth : ℕ) → ℕ
 guess depth = 10 ^ min depth 8
 

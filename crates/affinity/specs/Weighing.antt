@@ -20,11 +20,12 @@ Weighs counts facts w = (w.accesses ≡ accesses_in facts) × (w.groups ≡ weig
 
 -- ---- a law
 
+-- a profile, if there is one, is of the program, in which no `for` begins with a loop
 abbrev pub FitsIfAny : Option Counts → ProgramData → Type 0
 FitsIfAny None p = Unit {0}
-FitsIfAny (Some c) p = Fits c p
+FitsIfAny (Some c) p = LoopsStartPlainly p × Fits c p
 
--- each access of a program is one of a group that has a weight, where a profile, if there is one, fits the program
+-- each access of a program is one of a group that has a weight
 abbrev pub AccessesAreWeighed : Type 0
-AccessesAreWeighed = (counts : Option Counts) (p : ProgramData) → LoopsStartPlainly p → FitsIfAny counts p
+AccessesAreWeighed = (counts : Option Counts) (p : ProgramData) → FitsIfAny counts p
     → All (λ a. a.group < length (weights counts (facts_of p))) (accesses_in (facts_of p))

@@ -20,7 +20,7 @@ pub struct Walk {
     pub full: bool,
 }
 
-/// The weight of a loop at a depth, or of a function, which is at none.
+/// The weight of a loop at a depth, or of a function, at depth 0.
 fn guess(depth: usize) -> u64
     ensures { result ≡ guess depth }
 {
@@ -37,7 +37,7 @@ fn guess(depth: usize) -> u64
     }
 }
 
-/// Begins a group. There are never as many as 2^32: facts fit in memory.
+/// Begins a group. As many as 2^32 are taken for want of memory; no program comes to that.
 fn open(walk: &mut Walk, weight: u64)
     ensures { Opens walk.old walk.new weight }
 {
