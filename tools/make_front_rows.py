@@ -105,14 +105,17 @@ def of_verdict_rows():
     text = re.sub(r"(?m)^#.*\n", "", row_files.text_in(VERDICT_ROWS))
     for block in text.strip().split("\n\n"):
         lines, _, answer = block.strip().partition("\n= ")
-        row_name, *lines = lines.split("\n")
+        head, *lines = lines.split("\n")
+        question, _, row_name = head.rpartition(" ")
         files = marked_files(lines)
         marks = [mark for name, text in files for mark in marks_in(name, text)]
-        asked_lines = [f"judge {row_name}"]
+        asked_lines = [f"{question or 'judge'} {row_name}"]
         for name, text in files:
             asked_lines += [f"file {name}", f"|{text.replace('@', '')}"]
-        words = answer.split()
         verdicts = ""
+        words = answer.split()
+        if question == "weigh":
+            verdicts, words = f" {answer.strip()}", []
         for tag, test in zip(words[::2], words[1::2]):
             verdicts += f" {tag} {test}"
             if test != "legal":

@@ -9,7 +9,7 @@ pub struct Access {
     pub of: u32,
     pub field: u32,
     pub is_read: bool,
-    pub group: u32,
+    pub group: usize,
 }
 
 /// Whether it is one to that field of that record.

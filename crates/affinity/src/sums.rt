@@ -48,10 +48,10 @@ impl Weights {
 }
 
 /// The weight of a group, 0 where there is none.
-fn weight_of(weights: &[u64], group: u32) -> u64
+fn weight_of(weights: &[u64], group: usize) -> u64
     ensures { result ≡ weight_of weights.now group }
 {
-    match weights.get(group as usize) {
+    match weights.get(group) {
         Some(weight) => *weight,
         None => 0,
     }
@@ -60,9 +60,8 @@ fn weight_of(weights: &[u64], group: u32) -> u64
 fn mark(marks: &mut [bool], of: u32, field: u32, a: Access)
     ensures { marks.new ≡ marked of field marks.old a }
 {
-    let group = a.group as usize;
-    if is_to(a, of, field) && group < marks.len() {
-        marks[group] = true;
+    if is_to(a, of, field) && a.group < marks.len() {
+        marks[a.group] = true;
     }
 }
 

@@ -13,8 +13,8 @@ use std::alloc::Global;
 /// The groups around the open one, innermost last; the open one; the guessed weights of all; the accesses; and whether memory was out.
 #[derive(Drop)]
 pub struct Walk {
-    pub outer: List<u32>,
-    pub inner: u32,
+    pub outer: List<usize>,
+    pub inner: usize,
     pub weights: List<u64>,
     pub accesses: List<Access>,
     pub full: bool,
@@ -37,7 +37,6 @@ fn guess(depth: usize) -> u64
     }
 }
 
-/// Begins a group. As many as 2^32 are taken for want of memory; no program comes to that.
 fn open(walk: &mut Walk, weight: u64)
     ensures { Opens walk.old walk.new weight }
 {
@@ -45,11 +44,11 @@ fn open(walk: &mut Walk, weight: u64)
         return;
     }
     let number = walk.weights.len();
-    if number >= 0xFFFF_FFFF || walk.weights.push(weight).is_err() {
+    if walk.weights.push(weight).is_err() {
         walk.full = true;
         return;
     }
-    walk.inner = number as u32;
+    walk.inner = number;
 }
 
 fn open_function(walk: &mut Walk)

@@ -6,6 +6,7 @@ use crate::faults::{Spots, put_fault};
 use crate::program_text::put_program;
 use crate::row::{Question, Row};
 use crate::verdicts::put_verdicts;
+use crate::weights::put_weights;
 use c_link::Gap;
 use c_typed::Typed;
 use lay_base::{File, Files};
@@ -28,6 +29,7 @@ fn put_of_program(out: &mut Writer, alloc: Global, row: &Row, files: &[File], pr
         Question::Link => out.word("program"),
         Question::Show => put_program(out, alloc, program),
         Question::Judge => put_verdicts(out, alloc, Spots { files, places }, program),
+        Question::Weigh => put_weights(out, alloc, program),
     }
 }
 

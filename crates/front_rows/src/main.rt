@@ -1,9 +1,9 @@
 //! Reads rows of C files and of profiles, and prints what is made of each, to be compared with what was written down by
 //! hand.
 //!
-//! A row is a block of lines: `check NAME`, `link NAME`, `show NAME` or `judge NAME`; `places 5 9` where a fault may
-//! stand at either byte; and its files, as `row_lines` has them. Or it is `profile NAME`, `fronts NAME` or `fits NAME`,
-//! with files of which the last is a profile. For each row the program prints `NAME: ` and what became of its files.
+//! A row is a block of lines: `check NAME`, `link NAME`, `show NAME`, `judge NAME` or `weigh NAME`; `places 5 9` where a
+//! fault may stand at either byte; and its files, as `row_lines` has them. Or it is `profile NAME`, `fronts NAME` or
+//! `fits NAME`, with files of which the last is a profile. For each row the program prints `NAME: ` and what became of its files.
 //! A block that is no row is answered with that.
 #![tactic(auto)]
 
@@ -15,6 +15,7 @@ mod program_text;
 mod row;
 mod type_text;
 mod verdicts;
+mod weights;
 
 use answers::put_answer;
 use lay_base::Files;

@@ -14,6 +14,8 @@ pub enum Question {
     Show,
     /// Which of its records may be laid out anew.
     Judge,
+    /// How often the fields of its records are accessed.
+    Weigh,
 }
 
 /// What a row says beside its files. A fault may stand at any of its places, where it has some.
@@ -30,6 +32,7 @@ fn question_of(word: &str) -> Result<Question, RowFault> {
         "link" => Ok(Question::Link),
         "show" => Ok(Question::Show),
         "judge" => Ok(Question::Judge),
+        "weigh" => Ok(Question::Weigh),
         _ => Err(RowFault::NoRow),
     }
 }
