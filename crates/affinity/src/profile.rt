@@ -7,20 +7,13 @@ use c_typed::{Counts, FunCount};
 use lay_base::{List, NoMemory, add};
 use std::alloc::Global;
 
-fn add_all(all: &mut List<u64>, more: &[u64]) -> Result<(), NoMemory>
-    ensures { OnOk result (all.new ≡ all.old ++ more.now) }
-{
-    for count in more {
-        add(all, *count)?;
-    }
-    Ok(())
-}
-
 fn add_function(all: &mut List<u64>, f: &FunCount) -> Result<(), NoMemory>
     ensures { OnOk result (all.new ≡ all.old ++ f.now.entries ∷ f.now.loops) }
 {
     add(all, f.entries)?;
-    add_all(all, f.loops.as_slice())
+    all.as_mut_vec()
+        .extend_from_slice(f.loops.as_slice())
+        .map_err(|_| NoMemory)
 }
 
 /// The counts one behind the other: of each function its entries, then those of its loops.

@@ -1,6 +1,6 @@
 //! Which records hold which by value.
 
-ghost use Rattle.std.specs.Prelude.{◌≡◌, ◌++◌, ◌∷◌, ◌^◌, ◌<◌, ◌≤◌, [], IfOk, OnOk, fold, length, map};
+ghost use Rattle.std.specs.Prelude.{◌≡◌, ◌∷◌, ◌^◌, ◌<◌, ◌≤◌, [], IfOk, OnOk, fold, length, map};
 ghost use Rattle.c_types.specs.Views.{field_of, record_of, records_of, type_of};
 ghost use Rattle.legality.specs.Holdings.{held_in, holdings_of, is_among, new_in, with_field, with_record};
 
@@ -32,15 +32,6 @@ fn new_in(alloc: Global, all: &[u32], more: &[u32]) -> Result<List<u32>, NoMemor
     Ok(fresh)
 }
 
-fn add_all(all: &mut List<u32>, more: &[u32]) -> Result<(), NoMemory>
-    ensures { OnOk result (all.new ≡ all.old ++ more.now) }
-{
-    for r in more {
-        add(all, *r)?;
-    }
-    Ok(())
-}
-
 /// The records of which an object of a type holds one or is one.
 pub fn held_in<'a>(holdings: &'a [List<u32>], t: &Ty) -> &'a [u32]
     ensures { result.now ≡ held_in holdings.now (type_of t.now) }
@@ -64,7 +55,9 @@ fn add_field(
     ensures { OnOk result (all.new ≡ with_field holdings.now all.old (field_of f.now)) }
 {
     let fresh = new_in(alloc, all.as_slice(), held_in(holdings, &f.ty))?;
-    add_all(all, fresh.as_slice())
+    all.as_mut_vec()
+        .extend_from_slice(fresh.as_slice())
+        .map_err(|_| NoMemory)
 }
 
 /// What a record holds, itself first, by what those before it hold.
