@@ -20,10 +20,13 @@ is_null_node e = false
 abbrev pub ty : Trees.Expression CType → CType
 ty (Trees.expression t at node) = t
 
--- a conversion between two pointer types, other than one from null
-abbrev pub of_conversion : CType → Place → Trees.Expression CType → List AMention
-of_conversion t at e = if is_pointer t && is_pointer (ty e) && not (same_type t (ty e)) && not (is_null_node e)
-    then mention From (ty e) at ∷ mention To t at ∷ []
+abbrev pub place : Trees.Expression CType → Place
+place (Trees.expression t at node) = at
+
+-- a conversion between two pointer types, other than one from null, with the place of what is converted
+abbrev pub of_conversion : CType → Trees.Expression CType → List AMention
+of_conversion t e = if is_pointer t && is_pointer (ty e) && not (same_type t (ty e)) && not (is_null_node e)
+    then mention From (ty e) (place e) ∷ mention To t (place e) ∷ []
     else []
 
 -- over a tree in which allocations and null pointers are recognised
@@ -36,7 +39,7 @@ abbrev mutual
   told_by_node t at (Trees.load p) = told_by_path p
   told_by_node t at (Trees.address_of p) = told_by_path p
   told_by_node t at (Trees.decay p) = told_by_path p
-  told_by_node t at (Trees.convert e written) = told e ++ of_conversion t at e
+  told_by_node t at (Trees.convert e written) = told e ++ of_conversion t e
   told_by_node t at (Trees.unary op x) = told x
   told_by_node t at (Trees.binary op x y) = told x ++ told y
   told_by_node t at (Trees.compare op x y) = told x ++ told y

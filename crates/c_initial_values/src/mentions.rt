@@ -36,20 +36,15 @@ fn is_null_node(e: &Expression) -> bool
     matches!(&e.node, ExpressionNode::Null)
 }
 
-/// Those before and after a conversion of a pointer.
-fn told_by_conversion(
-    found: &mut List<Mention>,
-    t: &Ty,
-    place: Place,
-    e: &Expression,
-) -> Result<(), NoMemory>
-    ensures { OnOk result (mentions_in found.new ≡ mentions_in found.old ++ of_conversion (type_of t.now) place (typed (expression_of e.now))) }
+/// Those before and after a conversion of a pointer, with the place of what is converted.
+fn told_by_conversion(found: &mut List<Mention>, t: &Ty, e: &Expression) -> Result<(), NoMemory>
+    ensures { OnOk result (mentions_in found.new ≡ mentions_in found.old ++ of_conversion (type_of t.now) (typed (expression_of e.now))) }
 {
     if is_pointer(t) && is_pointer(&e.ty) && !same(t, &e.ty) && !is_null_node(e) {
         let from = copy(&e.ty)?;
-        add_mention(found, MentionKind::From, from, place)?;
+        add_mention(found, MentionKind::From, from, e.place)?;
         let to = copy(t)?;
-        add_mention(found, MentionKind::To, to, place)
+        add_mention(found, MentionKind::To, to, e.place)
     } else {
         Ok(())
     }
@@ -73,7 +68,7 @@ fn told_by_expression(
         }
         ExpressionNode::Convert(x, _) => {
             told_by_expression(alloc, found, x.get())?;
-            told_by_conversion(found, &e.ty, e.place, x.get())
+            told_by_conversion(found, &e.ty, x.get())
         }
         ExpressionNode::Unary(_, x) | ExpressionNode::Not(x) => {
             told_by_expression(alloc, found, x.get())

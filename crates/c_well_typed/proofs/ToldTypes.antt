@@ -16,7 +16,7 @@ use Rattle.c_typed.specs.Typed.{Declared, IsTyped, IsTypedNode, IsTypedPath, IsT
 use Rattle.c_typed.specs.TypedStatements.{IsTypedValue, IsTypedPart}
 use Rattle.c_erasure.specs.Erasure.{typed}
 use Rattle.c_erasure.specs.Files.{IsTypedObject}
-use Rattle.c_erasure.specs.InitialMentions.{mention, is_null_node, ty, of_conversion, told, told_by_node, told_by_path, told_by_step, told_by_value}
+use Rattle.c_erasure.specs.InitialMentions.{mention, is_null_node, place, ty, of_conversion, told, told_by_node, told_by_path, told_by_step, told_by_value}
 use Rattle.c_erasure.specs.InitialMentions.{told_by_initial}
 use Rattle.c_erasure.specs.Noted.{Noted, Expression, Path, Node, PathNode}
 use Rattle.c_erasure.specs.Recognised.{allocation, or_converted, is_null_constant, converted, recognised, recognised_node, recognised_path, recognised_step}
@@ -38,11 +38,11 @@ module _ (count : ℕ) where
   pointer_whole (pointer t) h = tt
   pointer_whole t h = cc
 
-  conversion_told : (t : CType) (at : Place) (e : Trees.Expression CType) → AreTold (of_conversion t at e)
-  conversion_told t at e = by_test (is_pointer t && is_pointer (ty e) && not (same_type t (ty e)) && not (is_null_node e)) refl
+  conversion_told : (t : CType) (e : Trees.Expression CType) → AreTold (of_conversion t e)
+  conversion_told t e = by_test (is_pointer t && is_pointer (ty e) && not (same_type t (ty e)) && not (is_null_node e)) refl
     where
       by_test : (b : Bool) → (is_pointer t && is_pointer (ty e) && not (same_type t (ty e)) && not (is_null_node e)) ≡ b
-          → AreTold (cond b (mention From (ty e) at ∷ mention To t at ∷ []) [])
+          → AreTold (cond b (mention From (ty e) (place e) ∷ mention To t (place e) ∷ []) [])
       by_test true h =
           let x = and_parts (is_pointer t && is_pointer (ty e) && not (same_type t (ty e))) (not (is_null_node e)) h in
           let y = and_parts (is_pointer t && is_pointer (ty e)) (not (same_type t (ty e))) x.0 in
@@ -63,7 +63,7 @@ module _ (count : ℕ) where
   null_or t at false node h = h
 
   still_converted : (t : CType) (at : Place) (e : Expression) (written : Bool) → AreTold (told (typed e)) → OfNode t at (Trees.convert e written)
-  still_converted t at e written h = joined (told (typed e)) (of_conversion t at (typed e)) h (conversion_told t at (typed e))
+  still_converted t at e written h = joined (told (typed e)) (of_conversion t (typed e)) h (conversion_told t (typed e))
 
   allocated_or : (t : CType) (at : Place) (r : ℕ) (a : Option (Trees.OptionalExpression Noted × Bool)) (e : Expression) (written : Bool)
       → AreTold (told (typed e)) → OfNode t at (or_converted r a e written)

@@ -87,11 +87,11 @@ module _ (P : CType → Type 0) (record_too : (r : ℕ) → P (structure r)) (ch
   both : (xs ys : List AMention) → AreTold xs → AreTold ys → AreTold (xs ++ ys)
   both xs ys h k = joined (λ (m : AMention). P m.ty) xs ys h k
 
-  conversion_told : (t : CType) (at : Place) (e : Expression) → P t → Each P e → AreTold (of_conversion t at (Plain e))
-  conversion_told t at e w h =
+  conversion_told : (t : CType) (e : Expression) → P t → Each P e → AreTold (of_conversion t (Plain e))
+  conversion_told t e w h =
       by_test (is_pointer t && is_pointer (Told.ty (Plain e)) && not (same_type t (Told.ty (Plain e))) && not (is_null_node (Plain e)))
     where
-      by_test : (b : Bool) → AreTold (cond b (mention From (Told.ty (Plain e)) at ∷ mention To t at ∷ []) [])
+      by_test : (b : Bool) → AreTold (cond b (mention From (Told.ty (Plain e)) (Told.place (Plain e)) ∷ mention To t (Told.place (Plain e)) ∷ []) [])
       by_test true = (told_type e h, (w, tt))
       by_test false = tt
 
@@ -107,7 +107,7 @@ module _ (P : CType → Type 0) (record_too : (r : ℕ) → P (structure r)) (ch
     told_in_node t at (Trees.load p) w h = told_in_path p h
     told_in_node t at (Trees.address_of p) w h = told_in_path p h
     told_in_node t at (Trees.decay p) w h = told_in_path p h
-    told_in_node t at (Trees.convert e written) w h = both (told (Plain e)) (of_conversion t at (Plain e)) (told_each e h) (conversion_told t at e w h)
+    told_in_node t at (Trees.convert e written) w h = both (told (Plain e)) (of_conversion t (Plain e)) (told_each e h) (conversion_told t e w h)
     told_in_node t at (Trees.unary op x) w h = told_each x h
     told_in_node t at (Trees.binary op x y) w h = both (told (Plain x)) (told (Plain y)) (told_each x h.0) (told_each y h.1)
     told_in_node t at (Trees.compare op x y) w h = both (told (Plain x)) (told (Plain y)) (told_each x h.0) (told_each y h.1)

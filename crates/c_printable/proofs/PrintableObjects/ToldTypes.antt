@@ -47,10 +47,10 @@ module _ (H : CType → Type 0) (of_structure : (r : ℕ) → H (structure r)) w
 
   -- ---- what is told
 
-  conversion_told : (t : CType) (at : Place) (e : Trees.Expression CType) → H t → H (Mentions.ty e) → AreTold (of_conversion t at e)
-  conversion_told t at e h k = by_test (is_pointer t && is_pointer (Mentions.ty e) && not (same_type t (Mentions.ty e)) && not (is_null_node e))
+  conversion_told : (t : CType) (e : Trees.Expression CType) → H t → H (Mentions.ty e) → AreTold (of_conversion t e)
+  conversion_told t e h k = by_test (is_pointer t && is_pointer (Mentions.ty e) && not (same_type t (Mentions.ty e)) && not (is_null_node e))
     where
-      by_test : (b : Bool) → AreTold (cond b (mention From (Mentions.ty e) at ∷ mention To t at ∷ []) [])
+      by_test : (b : Bool) → AreTold (cond b (mention From (Mentions.ty e) (Mentions.place e) ∷ mention To t (Mentions.place e) ∷ []) [])
       by_test true = (k, (h, tt))
       by_test false = tt
 
@@ -74,7 +74,7 @@ module _ (H : CType → Type 0) (of_structure : (r : ℕ) → H (structure r)) w
     node_told t at (Trees.address_of p) h k = path_told p h
     node_told t at (Trees.decay p) h k = path_told p h
     node_told t at (Trees.convert e written) h k =
-        both (told (typed e)) (of_conversion t at (typed e)) (expression_told e h) (conversion_told t at (typed e) k (same_type_of e (own_type e h)))
+        both (told (typed e)) (of_conversion t (typed e)) (expression_told e h) (conversion_told t (typed e) k (same_type_of e (own_type e h)))
     node_told t at (Trees.unary op x) h k = expression_told x h
     node_told t at (Trees.binary op x y) h k = two x y (expression_told x) (expression_told y) h
     node_told t at (Trees.compare op x y) h k = two x y (expression_told x) (expression_told y) h
