@@ -4,7 +4,7 @@ use Rattle.std.proofs.lemmas.List.{append-nil, append_assoc}
 use Rattle.lay_base.specs.Known.{Appends}
 use Rattle.block_memory.specs.RunWorlds.Events.{Event, Call, put, got, putting, getting, calls_of, output_of}
 use Rattle.source_run.specs.RunGives.{bytes_put, rest_behind}
-use Rattle.source_steps.specs.Agreeing.{behind_next}
+use Rattle.source_state.specs.Steps.Agreeing.{behind_next}
 
 pub appends_none : (old : Option (List ℕ)) → Appends old old []
 appends_none None = refl

@@ -12,9 +12,9 @@ use Rattle.source_run.specs.Streams.{Streams}
 use Rattle.source_run.proofs.Appending.{appends_none}
 use Rattle.source_run.proofs.Reaching.{Comes, FarWith, comes_by}
 use Rattle.source_start.proofs.NoCounts.{are_zero}
-use Rattle.source_steps.specs.Agreeing.{world, Agrees}
-use Rattle.source_steps.specs.Cores.{Core}
-use Rattle.source_steps.specs.declared.ends.Moved.{Moved}
+use Rattle.source_state.specs.Steps.Agreeing.{world, Agrees}
+use Rattle.source_state.specs.Steps.Cores.{Core}
+use Rattle.source_state.specs.declared.ends.Moved.{Moved}
 use Rattle.tac_engine.specs.States.{State, Moves}
 use Rattle.tac_engine.specs.Steps.{main_called}
 use Rattle.tac_engine.specs.View.{ready, state_of}

@@ -12,11 +12,11 @@ use Rattle.source_run.specs.Streams.{Streams, AreSteady}
 use Rattle.source_run.specs.declared.stepping.Advance.{Advance}
 use Rattle.source_run.specs.declared.stepping.Advance.TheVariants as A
 use Rattle.source_run.proofs.Appending.{appends_more, put_one, put_got, rest_put, rest_got}
-use Rattle.source_steps.specs.Agreeing.{world, end_of, Agrees, calls_with, next_in}
-use Rattle.source_steps.specs.Cores.{Core}
-use Rattle.source_steps.specs.declared.ends.Final.{Final}
-use Rattle.source_steps.specs.declared.ends.Moved.{Moved}
-use Rattle.source_steps.specs.declared.ends.Moved.TheVariants.{Goes, Puts, Gets, Over}
+use Rattle.source_state.specs.Steps.Agreeing.{world, end_of, Agrees, calls_with, next_in}
+use Rattle.source_state.specs.Steps.Cores.{Core}
+use Rattle.source_state.specs.declared.ends.Final.{Final}
+use Rattle.source_state.specs.declared.ends.Moved.{Moved}
+use Rattle.source_state.specs.declared.ends.Moved.TheVariants.{Goes, Puts, Gets, Over}
 use Rattle.tac_engine.specs.States.{State, Moves}
 use Rattle.tac_engine.specs.Steps.{stepped}
 use Rattle.tac_engine.proofs.Remains.{Keeps, Within, given_agrees, left_of, step_keeps}

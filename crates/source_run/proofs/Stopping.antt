@@ -18,11 +18,11 @@ use Rattle.source_run.proofs.Appending.{appends_none, appends_more, output_put, 
 use Rattle.source_run.proofs.Reaching.{Came, Ended, FarAt, FarWith, far_get, far_where, steady_then}
 use Rattle.source_start.proofs.NoCounts.{has_all}
 use Rattle.source_start.proofs.Telling.{counts_of_run}
-use Rattle.source_steps.specs.Agreeing.{behind_next, end_of, world}
-use Rattle.source_steps.specs.Cores.{Core}
-use Rattle.source_steps.specs.declared.ends.Final.{Final}
-use Rattle.source_steps.specs.declared.ends.Final.TheVariants.{Ends, TurnLimit, Undefined, Room}
-use Rattle.source_steps.specs.declared.ends.Moved.TheVariants.{Gets, Over, Puts}
+use Rattle.source_state.specs.Steps.Agreeing.{behind_next, end_of, world}
+use Rattle.source_state.specs.Steps.Cores.{Core}
+use Rattle.source_state.specs.declared.ends.Final.{Final}
+use Rattle.source_state.specs.declared.ends.Final.TheVariants.{Ends, TurnLimit, Undefined, Room}
+use Rattle.source_state.specs.declared.ends.Moved.TheVariants.{Gets, Over, Puts}
 use Rattle.tac_engine.specs.States.{State}
 use Rattle.tac_engine.specs.Steps.{stepped}
 use Rattle.tac_engine.proofs.Onwards.{at_end, goes_on}

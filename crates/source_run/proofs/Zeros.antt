@@ -7,7 +7,7 @@ use Rattle.source_start.proofs.NoCounts.{are_zero, has_all}
 use Rattle.source_start.proofs.Telling.{counts_are}
 use Rattle.source_start.specs.Counted.{entry_in, begin_in}
 use Rattle.source_start.specs.Zeros.{no_counts}
-use Rattle.source_steps.specs.Counting.{Counting}
+use Rattle.source_state.specs.Steps.Counting.{Counting}
 
 pub zeros_are : (p : ProgramData) (c : Counting) → c ≡ no_counts p → counts_by (entry_in c) (begin_in c) p ≡ counts_of_none p
 zeros_are p c e = ap (λ (c : Counting). counts_by (entry_in c) (begin_in c) p) e

@@ -5,9 +5,9 @@ use Rattle.block_memory.specs.declared.run_worlds.value.Value.{Value}
 use Rattle.source_run.specs.Streams.{Streams, AreSteady}
 use Rattle.source_run.specs.declared.stepping.Advance.{Advance}
 use Rattle.source_run.specs.declared.stepping.Advance.TheVariants as A
-use Rattle.source_steps.specs.Agreeing.{next_in, behind_next}
-use Rattle.source_steps.specs.declared.ends.Moved.{Moved}
-use Rattle.source_steps.specs.declared.ends.Moved.TheVariants.{Goes, Puts, Gets, Over}
+use Rattle.source_state.specs.Steps.Agreeing.{next_in, behind_next}
+use Rattle.source_state.specs.declared.ends.Moved.{Moved}
+use Rattle.source_state.specs.declared.ends.Moved.TheVariants.{Goes, Puts, Gets, Over}
 use Rattle.tac_engine.specs.States.{State}
 use Rattle.tac_engine.specs.Steps.{read_given, stepped}
 

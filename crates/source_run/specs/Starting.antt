@@ -9,11 +9,11 @@ use Rattle.source_run.specs.declared.end.RunEnd.{RunEnd as Answer}
 use Rattle.source_run.specs.declared.end.RunEnd.TheVariants as E
 use Rattle.source_start.specs.Counted.{entry_in, begin_in}
 use Rattle.source_start.specs.Zeros.{no_counts}
-use Rattle.source_steps.specs.AtStart.{core_at_start}
-use Rattle.source_steps.specs.Cores.{Core}
-use Rattle.source_steps.specs.Counting.{Counting}
-use Rattle.source_steps.specs.declared.ends.Final.{Final}
-use Rattle.source_steps.specs.declared.ends.Final.TheVariants.{Ends, TurnLimit, Undefined, Room}
+use Rattle.source_state.specs.Steps.AtStart.{core_at_start}
+use Rattle.source_state.specs.Steps.Cores.{Core}
+use Rattle.source_state.specs.Steps.Counting.{Counting}
+use Rattle.source_state.specs.declared.ends.Final.{Final}
+use Rattle.source_state.specs.declared.ends.Final.TheVariants.{Ends, TurnLimit, Undefined, Room}
 use Rattle.tac_engine.specs.States.{State}
 use Rattle.tac_engine.specs.View.{ready}
 use Rattle.tac_ir.specs.Code.{code_of}

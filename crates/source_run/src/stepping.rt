@@ -8,7 +8,7 @@ ghost use Rattle.tac_engine.specs.View.{state_of};
 
 use block_memory::Value;
 use lay_base::{Sink, SinkFault, Source, SourceFault};
-use source_steps::{Final, Moved};
+use source_state::{Final, Moved};
 use std::alloc::Global;
 use tac_engine::Engine;
 

@@ -5,9 +5,9 @@ use Rattle.c_meaning.specs.Program.{initial_memory}
 use Rattle.c_typed.specs.Programs.{ProgramData}
 use Rattle.block_memory.specs.RunWorlds.Worlds.{live_bytes}
 use Rattle.source_state.specs.RoomView.{empty_core}
-use Rattle.source_steps.specs.AtStart.{core_at_start}
-use Rattle.source_steps.specs.Cores.{Core}
-use Rattle.source_steps.specs.Counting.{Counting}
+use Rattle.source_state.specs.Steps.AtStart.{core_at_start}
+use Rattle.source_state.specs.Steps.Cores.{Core}
+use Rattle.source_state.specs.Steps.Counting.{Counting}
 
 pub filled : (p : ProgramData) (turns : ℕ) (counts : Counting) (old : Core) (memory : Memory) (live : ℕ)
     → old ≡ empty_core turns counts → memory ≡ old.memory ++ initial_memory p → live ≡ live_bytes (initial_memory p)

@@ -5,7 +5,7 @@ use Rattle.c_typed.specs.RunCounts.Loops.{loops_of}
 use Rattle.c_typed.specs.Programs.{FunctionData, ProgramData}
 use Rattle.source_start.specs.Shape.{HasAll}
 use Rattle.source_start.specs.Zeros.{no_counts}
-use Rattle.source_steps.specs.AtStart.{AreZero}
+use Rattle.source_state.specs.Steps.AtStart.{AreZero}
 
 in_zeros : (count k n : ℕ) → slice_get (replicate count 0) k ≡ Some n → n ≡ zero
 in_zeros zero k n e = cc

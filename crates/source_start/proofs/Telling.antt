@@ -14,9 +14,9 @@ use Rattle.c_typed.specs.Programs.{FunctionData, ProgramData}
 use Rattle.block_memory.specs.RunWorlds.Events.{Event, entries_of, begins_of}
 use Rattle.source_start.specs.Counted.{begin_in, entry_in}
 use Rattle.source_start.specs.Shape.{HasAll}
-use Rattle.source_steps.specs.Cores.{Core}
-use Rattle.source_steps.specs.Counting.{Counting}
-use Rattle.source_steps.specs.Agreeing.{Agrees}
+use Rattle.source_state.specs.Steps.Cores.{Core}
+use Rattle.source_state.specs.Steps.Counting.{Counting}
+use Rattle.source_state.specs.Steps.Agreeing.{Agrees}
 
 -- ---- one count
 

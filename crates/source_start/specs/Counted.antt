@@ -1,6 +1,6 @@
 -- What is read of counts.
 use Rattle.std.specs.Prelude.{ℕ, [], slice_get, unwrap_or}
-use Rattle.source_steps.specs.Counting.{Counting}
+use Rattle.source_state.specs.Steps.Counting.{Counting}
 
 -- how often a function was entered; 0 where it has no count
 abbrev pub entry_in : Counting → (function : ℕ) → ℕ

@@ -3,7 +3,7 @@ use Rattle.std.specs.Prelude.{ℕ, List, map, replicate, length, Vec}
 use Rattle.std.specs.Global.{Global}
 use Rattle.c_typed.specs.RunCounts.Loops.{loops_of}
 use Rattle.c_typed.specs.Programs.{ProgramData}
-use Rattle.source_steps.specs.Counting.{Counting}
+use Rattle.source_state.specs.Steps.Counting.{Counting}
 
 -- one for each function, and for each of its loops
 abbrev pub no_counts : ProgramData → Counting

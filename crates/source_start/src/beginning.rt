@@ -3,8 +3,8 @@
 ghost use Rattle.std.specs.Prelude.{◌≡◌, ℕ, OnOk};
 ghost use Rattle.c_typed.specs.Programs.{program_data};
 ghost use Rattle.source_state.specs.RoomView.{core_of, empty_core};
-ghost use Rattle.source_steps.specs.AtStart.{core_at_start};
-ghost use Rattle.source_steps.specs.Counting.{Counting};
+ghost use Rattle.source_state.specs.Steps.AtStart.{core_at_start};
+ghost use Rattle.source_state.specs.Steps.Counting.{Counting};
 
 use crate::objects::add_objects;
 use lay_base::NoMemory;

@@ -3,9 +3,9 @@ use Rattle.std.proofs.Common.{◌≡◌, ℕ, ◌+◌, ◌≤◌, true, List, le
 use Rattle.std.proofs.lemmas.List.{length-replicate, length-map}
 use Rattle.memory_words.specs.declared.cell_words.cell.Cell.TheVariants.{Byte, Empty}
 use Rattle.block_memory.specs.Blocks.{size, with_cells}
-use Rattle.source_steps.proofs.Living.{put_within}
-use Rattle.source_steps.specs.Cores.{Core}
-use Rattle.source_steps.specs.Memories.{put_cells, with_memory, with_text, zeroed}
+use Rattle.source_state.proofs.Steps.Living.{put_within}
+use Rattle.source_state.specs.Steps.Cores.{Core}
+use Rattle.source_state.specs.Steps.Memories.{put_cells, with_memory, with_text, zeroed}
 
 pub zeroed_within : (b n : ℕ) (c : Core) → n ≤ size c.memory b → zeroed true b n c ≡ with_memory (with_cells c.memory b 0 (replicate n (Byte 0))) c
 zeroed_within b n c h = let count = length-replicate n (Byte 0) in put_within b 0 (replicate n (Byte 0)) c (omega (arith, count, h))

@@ -3,8 +3,8 @@ use Rattle.std.specs.Prelude.{ℕ, []}
 use Rattle.block_memory.specs.View.{memory_of}
 use Rattle.source_state.specs.CountsView.{counting_of}
 use Rattle.source_state.specs.declared.room.Room.{Room}
-use Rattle.source_steps.specs.Cores.{Core}
-use Rattle.source_steps.specs.Counting.{Counting}
+use Rattle.source_state.specs.Steps.Cores.{Core}
+use Rattle.source_state.specs.Steps.Counting.{Counting}
 
 abbrev pub core_of : Room → Core
 core_of r = record {

@@ -2,14 +2,14 @@
 
 ghost use Rattle.std.specs.Prelude.{◌≡◌, IfOk};
 ghost use Rattle.source_state.specs.RoomView.{core_of};
-ghost use Rattle.source_steps.specs.Calls.{begun, enter, leave, received};
-ghost use Rattle.source_steps.specs.Locals.{slot};
+ghost use Rattle.source_state.specs.Steps.Calls.{begun, enter, leave, received};
+ghost use Rattle.source_state.specs.Steps.Locals.{slot};
 
+use crate::ends::Final;
 use crate::room::Room;
 use block_memory::{Access, Ptr, Value};
 use c_meaning::Slot;
 use lay_base::{NoMemory, Place, RoomKind};
-use source_steps::Final;
 use std::mem;
 
 /// The greatest number of functions that are entered and not left.

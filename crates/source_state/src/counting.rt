@@ -2,7 +2,7 @@
 
 ghost use Rattle.std.specs.Prelude.{◌≡◌};
 ghost use Rattle.source_state.specs.CountsView.{counting_of};
-ghost use Rattle.source_steps.specs.Counting.{raised, with_begin, with_entry};
+ghost use Rattle.source_state.specs.Steps.Counting.{raised, with_begin, with_entry};
 
 /// The counts of each function, and of each loop of each function, by their numbers.
 #[derive(Drop)]

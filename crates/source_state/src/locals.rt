@@ -3,15 +3,15 @@
 ghost use Rattle.std.specs.Prelude.{◌≡◌, IfOk};
 ghost use Rattle.block_memory.specs.RunWorlds.Scalars.{load_in, store_in};
 ghost use Rattle.source_state.specs.RoomView.{core_of};
-ghost use Rattle.source_steps.specs.Cores.{Changes};
-ghost use Rattle.source_steps.specs.Locals.{begin_as, end_all, end_slot, finish};
-ghost use Rattle.source_steps.specs.Memories.{changed};
+ghost use Rattle.source_state.specs.Steps.Cores.{Changes};
+ghost use Rattle.source_state.specs.Steps.Locals.{begin_as, end_all, end_slot, finish};
+ghost use Rattle.source_state.specs.Steps.Memories.{changed};
 
+use crate::ends::Final;
 use crate::room::Room;
 use block_memory::{Access, BlockKind, Ptr, Value};
 use c_meaning::Slot;
 use lay_base::{NoMemory, UndefinedKind};
-use source_steps::Final;
 use std::alloc::Global;
 
 impl Room {

@@ -4,16 +4,16 @@ ghost use Rattle.std.specs.Prelude.{◌≡◌, IfOk, replicate, true};
 ghost use Rattle.memory_words.specs.declared.cell_words.cell.Cell.TheVariants.{Empty};
 ghost use Rattle.block_memory.specs.RunWorlds.LibraryCalls.{is_same_place};
 ghost use Rattle.source_state.specs.RoomView.{core_of};
-ghost use Rattle.source_steps.specs.Cores.{Changes};
-ghost use Rattle.source_steps.specs.Locals.{emptied, slot};
-ghost use Rattle.source_steps.specs.Memories.{allocate, compare, copy, copy_record, end, fill, free, freed_size, living_size, make, put_cells, with_text};
-ghost use Rattle.source_steps.specs.Memories.{zeroed};
+ghost use Rattle.source_state.specs.Steps.Cores.{Changes};
+ghost use Rattle.source_state.specs.Steps.Locals.{emptied, slot};
+ghost use Rattle.source_state.specs.Steps.Memories.{allocate, compare, copy, copy_record, end, fill, free, freed_size, living_size, make, put_cells, with_text};
+ghost use Rattle.source_state.specs.Steps.Memories.{zeroed};
 
+use crate::ends::Final;
 use crate::room::Room;
 use block_memory::{BlockKind, Ptr, Value};
 use c_meaning::{Slot, Spot};
 use lay_base::{NoMemory, RoomKind, UndefinedKind};
-use source_steps::Final;
 use std::alloc::Global;
 
 /// The greatest number of bytes that live at a time.

@@ -24,7 +24,7 @@ impl Room {
     ghost use Rattle.std.specs.Prelude.{◌≡◌};
     ghost use Rattle.source_state.specs.CountsView.{counting_of};
     ghost use Rattle.source_state.specs.RoomView.{core_of, empty_core};
-    ghost use Rattle.source_steps.specs.Locals.{slot, with_slot};
+    ghost use Rattle.source_state.specs.Steps.Locals.{slot, with_slot};
 
     /// An empty room with these counts, where so many turns may begin.
     pub fn new(alloc: Global, turns: u64, counts: Counters) -> Room

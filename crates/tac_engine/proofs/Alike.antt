@@ -22,13 +22,13 @@ use Rattle.c_meaning.specs.Expressions.{element_of, field_in, field_through, is_
 use Rattle.c_meaning.specs.declared.frame.Slot.{Slot}
 use Rattle.c_meaning.specs.declared.frame.Slot.TheVariants.{ByName as by_name, InBlock as in_block}
 use Rattle.c_meaning.specs.declared.frame.Spot.TheVariants.{Placed as placed}
-use Rattle.source_steps.specs.Cores.{Core, done}
-use Rattle.source_steps.specs.Locals.{slot, emptied}
-use Rattle.source_steps.specs.Memories.{changed, copy_record, with_text, zeroed}
-use Rattle.source_steps.proofs.Calls.{begun_part}
-use Rattle.source_steps.proofs.Locals.{with_slot_part}
-use Rattle.source_steps.proofs.Memories.{allocate_part, copy_part, load_part, now_put_part, reached_part, store_part}
-use Rattle.source_steps.proofs.Parts.{Part, pure_part}
+use Rattle.source_state.specs.Steps.Cores.{Core, done}
+use Rattle.source_state.specs.Steps.Locals.{slot, emptied}
+use Rattle.source_state.specs.Steps.Memories.{changed, copy_record, with_text, zeroed}
+use Rattle.source_state.proofs.Steps.Calls.{begun_part}
+use Rattle.source_state.proofs.Steps.Locals.{with_slot_part}
+use Rattle.source_state.proofs.Steps.Memories.{allocate_part, copy_part, load_part, now_put_part, reached_part, store_part}
+use Rattle.source_state.proofs.Steps.Parts.{Part, pure_part}
 use Rattle.tac_ir.specs.Code.{led}
 use Rattle.tac_ir.specs.Running as Run
 use Rattle.tac_ir.specs.Running.{address, as_number, does, no_place, type_in, type_of_sort, value_in}

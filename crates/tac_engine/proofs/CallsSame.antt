@@ -22,14 +22,14 @@ use Rattle.c_meaning.specs.Program.{type_at}
 use Rattle.c_meaning.specs.Run.{end_by}
 use Rattle.c_meaning.specs.declared.frame.Slot.{Slot}
 use Rattle.c_meaning.specs.declared.frame.Slot.TheVariants.{ByName as by_name, InBlock as in_block}
-use Rattle.source_steps.specs.Agreeing.{world, end_of}
-use Rattle.source_steps.specs.Calls.{received}
-use Rattle.source_steps.specs.Cores.{Core, done}
-use Rattle.source_steps.specs.Locals.{slot, end_slot, finish, begin_as}
-use Rattle.source_steps.proofs.Calls.{agrees_left, enter_part}
-use Rattle.source_steps.proofs.Locals.{agrees_framed, with_slot_part, end_all_part}
-use Rattle.source_steps.proofs.Memories.{end_part, make_part, store_part}
-use Rattle.source_steps.proofs.Parts.{Part, pure_part, bind_part}
+use Rattle.source_state.specs.Steps.Agreeing.{world, end_of}
+use Rattle.source_state.specs.Steps.Calls.{received}
+use Rattle.source_state.specs.Steps.Cores.{Core, done}
+use Rattle.source_state.specs.Steps.Locals.{slot, end_slot, finish, begin_as}
+use Rattle.source_state.proofs.Steps.Calls.{agrees_left, enter_part}
+use Rattle.source_state.proofs.Steps.Locals.{agrees_framed, with_slot_part, end_all_part}
+use Rattle.source_state.proofs.Steps.Memories.{end_part, make_part, store_part}
+use Rattle.source_state.proofs.Steps.Parts.{Part, pure_part, bind_part}
 use Rattle.tac_ir.specs.Code.{RoutineData, data_of}
 use Rattle.tac_ir.specs.Running as Run
 use Rattle.tac_ir.specs.Running.{Caller, empty_slot, type_in, with_temp}

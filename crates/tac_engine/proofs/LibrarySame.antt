@@ -17,13 +17,13 @@ use Rattle.block_memory.specs.RunWorlds.Scalars.{as_word, as_pointer}
 use Rattle.block_memory.specs.declared.run_worlds.value.Value.{Value}
 use Rattle.block_memory.specs.declared.run_worlds.value.Value.TheVariants.{Word, Pointer}
 use Rattle.c_meaning.specs.declared.frame.Slot.TheVariants.{ByName as by_name}
-use Rattle.source_steps.specs.Agreeing.{world, Agrees}
-use Rattle.source_steps.specs.Cores.{Core}
-use Rattle.source_steps.specs.Memories as Memories
-use Rattle.source_steps.specs.declared.ends.Final.TheVariants.{Ends}
-use Rattle.source_steps.specs.declared.ends.Moved.TheVariants.{Gets, Over, Puts}
-use Rattle.source_steps.proofs.Locals.{agrees_framed}
-use Rattle.source_steps.proofs.Memories.{allocate_part, free_part, copy_part, fill_part}
+use Rattle.source_state.specs.Steps.Agreeing.{world, Agrees}
+use Rattle.source_state.specs.Steps.Cores.{Core}
+use Rattle.source_state.specs.Steps.Memories as Memories
+use Rattle.source_state.specs.declared.ends.Final.TheVariants.{Ends}
+use Rattle.source_state.specs.declared.ends.Moved.TheVariants.{Gets, Over, Puts}
+use Rattle.source_state.proofs.Steps.Locals.{agrees_framed}
+use Rattle.source_state.proofs.Steps.Memories.{allocate_part, free_part, copy_part, fill_part}
 use Rattle.tac_ir.specs.Running as Run
 use Rattle.tac_ir.specs.Running.{with_temp}
 use Rattle.tac_engine.specs.States.{State, Moves, with_core, given, putting, putting_any, found, number, address, changing}

@@ -3,12 +3,12 @@ use Rattle.std.proofs.Common.{◌≡◌, refl, ap, sym, ◌∙◌, ℕ, zero, su
 use Rattle.std.proofs.lemmas.List.{append-nil, append_assoc}
 use Rattle.block_memory.specs.RunWorlds.Events.{Event, Call, putting, getting, calls_of}
 use Rattle.block_memory.specs.RunWorlds.Worlds.{World, End, world_of}
-use Rattle.source_steps.specs.Agreeing.{end_of, world, Agrees, next_in}
-use Rattle.source_steps.specs.Cores.{Core}
-use Rattle.source_steps.specs.declared.ends.Final.{Final}
-use Rattle.source_steps.specs.declared.ends.Final.TheVariants.{Ends, TurnLimit, Undefined, Room}
-use Rattle.source_steps.specs.declared.ends.Moved.{Moved}
-use Rattle.source_steps.specs.declared.ends.Moved.TheVariants.{Goes, Puts, Gets, Over}
+use Rattle.source_state.specs.Steps.Agreeing.{end_of, world, Agrees, next_in}
+use Rattle.source_state.specs.Steps.Cores.{Core}
+use Rattle.source_state.specs.declared.ends.Final.{Final}
+use Rattle.source_state.specs.declared.ends.Final.TheVariants.{Ends, TurnLimit, Undefined, Room}
+use Rattle.source_state.specs.declared.ends.Moved.{Moved}
+use Rattle.source_state.specs.declared.ends.Moved.TheVariants.{Goes, Puts, Gets, Over}
 use Rattle.tac_engine.specs.States.{State}
 use Rattle.tac_engine.specs.Steps.{stepped}
 use Rattle.tac_engine.proofs.Remains.{Keeps, Within, given_agrees, left_of, step_keeps}

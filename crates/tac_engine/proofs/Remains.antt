@@ -9,11 +9,11 @@ use Rattle.block_memory.specs.RunWorlds.Worlds.{World, End, undefined as ends_un
 use Rattle.block_memory.specs.declared.run_worlds.value.Value.{Value}
 use Rattle.c_meaning.specs.Frames.{Frame}
 use Rattle.c_meaning.specs.declared.frame.Slot.TheVariants.{ByName as by_name}
-use Rattle.source_steps.specs.Agreeing.{world, end_of, Agrees, calls_with, input_behind}
-use Rattle.source_steps.specs.Cores.{Core}
-use Rattle.source_steps.specs.declared.ends.Moved.{Moved}
-use Rattle.source_steps.specs.declared.ends.Moved.TheVariants.{Goes, Puts, Gets, Over}
-use Rattle.source_steps.proofs.Locals.{agrees_framed}
+use Rattle.source_state.specs.Steps.Agreeing.{world, end_of, Agrees, calls_with, input_behind}
+use Rattle.source_state.specs.Steps.Cores.{Core}
+use Rattle.source_state.specs.declared.ends.Moved.{Moved}
+use Rattle.source_state.specs.declared.ends.Moved.TheVariants.{Goes, Puts, Gets, Over}
+use Rattle.source_state.proofs.Steps.Locals.{agrees_framed}
 use Rattle.tac_ir.specs.Code.{Code, code_of}
 use Rattle.tac_ir.specs.Running as Run
 use Rattle.tac_ir.specs.Running.{Next, with_temp, code_run, does, go, no_place}

@@ -4,9 +4,9 @@ use Rattle.std.proofs.lemmas.List.{drop_all}
 use Rattle.lay_base.specs.declared.faults.UndefinedKind.TheVariants as K
 use Rattle.lay_base.specs.declared.place.Place.{Place}
 use Rattle.block_memory.specs.declared.run_worlds.value.Value.{Value}
-use Rattle.source_steps.specs.Cores.{Core, done}
-use Rattle.source_steps.specs.Locals.{slot}
-use Rattle.source_steps.specs.declared.ends.Final.{Final}
+use Rattle.source_state.specs.Steps.Cores.{Core, done}
+use Rattle.source_state.specs.Steps.Locals.{slot}
+use Rattle.source_state.specs.declared.ends.Final.{Final}
 use Rattle.tac_ir.specs.declared.step.Parameter.{Parameter}
 use Rattle.tac_engine.specs.Reading.{behind}
 use Rattle.tac_engine.specs.States.{and_more, held, read_row}

@@ -17,14 +17,14 @@ use Rattle.block_memory.specs.declared.run_worlds.value.Value.TheVariants.{Word 
 use Rattle.c_meaning.specs.Frames.{Frame}
 use Rattle.c_meaning.specs.declared.frame.Slot.{Slot}
 use Rattle.c_meaning.specs.declared.frame.Slot.TheVariants.{ByName as by_name, InBlock as in_block}
-use Rattle.source_steps.specs.Agreeing.{world, end_of, Agrees, calls_with, input_behind, next_in}
-use Rattle.source_steps.specs.Cores as Cores
-use Rattle.source_steps.specs.Cores.{Core, Does}
-use Rattle.source_steps.specs.declared.ends.Final.{Final}
-use Rattle.source_steps.specs.declared.ends.Moved.{Moved}
-use Rattle.source_steps.specs.declared.ends.Moved.TheVariants.{Gets, Over}
-use Rattle.source_steps.proofs.Locals.{agrees_framed}
-use Rattle.source_steps.proofs.Parts.{Part, Gives, reading as looking}
+use Rattle.source_state.specs.Steps.Agreeing.{world, end_of, Agrees, calls_with, input_behind, next_in}
+use Rattle.source_state.specs.Steps.Cores as Cores
+use Rattle.source_state.specs.Steps.Cores.{Core, Does}
+use Rattle.source_state.specs.declared.ends.Final.{Final}
+use Rattle.source_state.specs.declared.ends.Moved.{Moved}
+use Rattle.source_state.specs.declared.ends.Moved.TheVariants.{Gets, Over}
+use Rattle.source_state.proofs.Steps.Locals.{agrees_framed}
+use Rattle.source_state.proofs.Steps.Parts.{Part, Gives, reading as looking}
 use Rattle.tac_ir.specs.Code.{Code, code_of}
 use Rattle.tac_ir.specs.Running as Run
 use Rattle.tac_ir.specs.Running.{Next, with_temp}

@@ -2,7 +2,7 @@
 use Rattle.std.specs.Prelude.{◌≡◌, List, ◌++◌, Result, Ok, Err}
 use Rattle.std.specs.Global.{Vec}
 use Rattle.block_memory.specs.declared.run_worlds.value.Value.{Value}
-use Rattle.source_steps.specs.declared.ends.Final.{Final}
+use Rattle.source_state.specs.declared.ends.Final.{Final}
 
 abbrev pub ReadsRow : Result (List Value) Final → Result (Vec Value) Final → Type 0
 ReadsRow defined (Ok values) = defined ≡ Ok values.items

@@ -14,12 +14,12 @@ use Rattle.block_memory.specs.declared.run_worlds.value.Value.TheVariants.{Word 
 use Rattle.c_meaning.specs.Expressions.{field_in, is_subscript, part_in}
 use Rattle.c_meaning.specs.declared.frame.Slot.{Slot}
 use Rattle.c_meaning.specs.declared.frame.Slot.TheVariants.{ByName as by_name, InBlock as in_block}
-use Rattle.source_steps.specs.Cores.{Core, Does}
-use Rattle.source_steps.specs.Locals.{slot}
-use Rattle.source_steps.specs.declared.ends.Final.{Final}
-use Rattle.source_steps.specs.declared.ends.Final.TheVariants.{Undefined}
-use Rattle.source_steps.specs.declared.ends.Moved.{Moved}
-use Rattle.source_steps.specs.declared.ends.Moved.TheVariants.{Goes, Over}
+use Rattle.source_state.specs.Steps.Cores.{Core, Does}
+use Rattle.source_state.specs.Steps.Locals.{slot}
+use Rattle.source_state.specs.declared.ends.Final.{Final}
+use Rattle.source_state.specs.declared.ends.Final.TheVariants.{Undefined}
+use Rattle.source_state.specs.declared.ends.Moved.{Moved}
+use Rattle.source_state.specs.declared.ends.Moved.TheVariants.{Goes, Over}
 use Rattle.tac_ir.specs.Code.{RoutineData, led}
 use Rattle.tac_ir.specs.Running.{Caller, with_temp}
 use Rattle.tac_ir.specs.declared.step.Operand.{Operand}

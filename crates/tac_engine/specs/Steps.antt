@@ -20,13 +20,13 @@ use Rattle.c_meaning.specs.Program.{type_at}
 use Rattle.c_meaning.specs.declared.frame.Slot.{Slot}
 use Rattle.c_meaning.specs.declared.frame.Slot.TheVariants.{ByName as by_name, InBlock as in_block}
 use Rattle.c_meaning.specs.declared.frame.Spot.TheVariants.{Placed as placed}
-use Rattle.source_steps.specs.Calls.{begun, enter, leave, received}
-use Rattle.source_steps.specs.Cores.{Core, Does, and_then, done}
-use Rattle.source_steps.specs.Locals.{slot, begin_as, finish, emptied, end_all}
-use Rattle.source_steps.specs.Memories.{allocate, changed, compare, copy, copy_record, fill, free, with_text, zeroed}
-use Rattle.source_steps.specs.declared.ends.Final.{Final}
-use Rattle.source_steps.specs.declared.ends.Final.TheVariants.{Ends, Undefined}
-use Rattle.source_steps.specs.declared.ends.Moved.TheVariants.{Puts, Gets, Over}
+use Rattle.source_state.specs.Steps.Calls.{begun, enter, leave, received}
+use Rattle.source_state.specs.Steps.Cores.{Core, Does, and_then, done}
+use Rattle.source_state.specs.Steps.Locals.{slot, begin_as, finish, emptied, end_all}
+use Rattle.source_state.specs.Steps.Memories.{allocate, changed, compare, copy, copy_record, fill, free, with_text, zeroed}
+use Rattle.source_state.specs.declared.ends.Final.{Final}
+use Rattle.source_state.specs.declared.ends.Final.TheVariants.{Ends, Undefined}
+use Rattle.source_state.specs.declared.ends.Moved.TheVariants.{Puts, Gets, Over}
 use Rattle.tac_ir.specs.Code.{data_of}
 use Rattle.tac_ir.specs.Running.{Caller, as_number, empty_slot, no_place, type_of_sort, value_in}
 use Rattle.tac_ir.specs.declared.step.Parameter.{Parameter}

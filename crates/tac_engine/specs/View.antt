@@ -2,7 +2,7 @@
 use Rattle.std.specs.Prelude.{ℕ, List, [], map, reverse, take}
 use Rattle.c_typed.specs.declared.program.Typed.{Typed}
 use Rattle.source_state.specs.RoomView.{core_of}
-use Rattle.source_steps.specs.Cores.{Core}
+use Rattle.source_state.specs.Steps.Cores.{Core}
 use Rattle.tac_ir.specs.Code.{data_of}
 use Rattle.tac_ir.specs.Running.{Caller as Waiting}
 use Rattle.tac_ir.specs.declared.step.Routine.{Routine}

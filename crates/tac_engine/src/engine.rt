@@ -2,8 +2,7 @@
 
 use c_meaning::Slot;
 use lay_base::{NoMemory, Place};
-use source_state::{Room, Stack};
-use source_steps::Moved;
+use source_state::{Moved, Room, Stack};
 use source_values::Types;
 use tac_ir::{Routine, Tac};
 

@@ -11,8 +11,7 @@ use crate::temporaries::{read, read_row};
 use block_memory::Value;
 use c_typed::LibraryFunction as Library;
 use lay_base::{NoMemory, Place, UndefinedKind};
-use source_state::undefined;
-use source_steps::{Final, Moved};
+use source_state::{Final, Moved, undefined};
 use std::alloc::Global;
 use tac_ir::{Operand, Row};
 

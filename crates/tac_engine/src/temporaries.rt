@@ -10,8 +10,7 @@ ghost use Rattle.tac_engine.specs.States.{held, put_slot, read, read_both, read_
 use block_memory::{Ptr, Value};
 use c_meaning::Slot;
 use lay_base::{NoMemory, Place, UndefinedKind};
-use source_state::Room;
-use source_steps::Final;
+use source_state::{Final, Room};
 use std::alloc::Global;
 use tac_ir::{Operand, Row};
 

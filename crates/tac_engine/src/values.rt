@@ -18,8 +18,7 @@ use c_meaning::Slot;
 use c_typed::{BinaryOp, PointerOp, is_shift, promoted_kind};
 use c_types::IntKind;
 use lay_base::{NoMemory, Place, UndefinedKind};
-use source_state::undefined;
-use source_steps::Moved;
+use source_state::{Moved, undefined};
 use source_values::{
     binary, compared, convert, distance, flag, is_true, moved, moved_from, null_or_pointer, unary,
 };

@@ -8,7 +8,7 @@ use Rattle.source_run.proofs.Beginning.{at_start}
 use Rattle.source_run.proofs.runner.engine_at_start.Goals as goal
 use Rattle.source_start.specs.Zeros.{no_counts}
 use Rattle.source_state.specs.RoomView.{core_of, empty_core}
-use Rattle.source_steps.specs.Counting.{Counting}
+use Rattle.source_state.specs.Steps.Counting.{Counting}
 
 pub returns : goal.returns
 returns c =

@@ -4,8 +4,8 @@ use Rattle.source_run.proofs.Beginning.{far_begun}
 use Rattle.source_run.proofs.Reaching.{far_where, goes_further}
 use Rattle.source_run.proofs.Stopping.{is_over, fails_reading, fails_writing, lacks_memory, steps_on}
 use Rattle.source_run.proofs.runner.run_engine.Goals as goal
-use Rattle.source_steps.specs.declared.ends.Moved.{Moved}
-use Rattle.source_steps.specs.declared.ends.Moved.TheVariants.{Goes, Over}
+use Rattle.source_state.specs.declared.ends.Moved.{Moved}
+use Rattle.source_state.specs.declared.ends.Moved.TheVariants.{Goes, Over}
 use Rattle.tac_engine.specs.View.{state_of}
 
 pub returns-in-Ok-Over : goal.returns-in-Ok-Over

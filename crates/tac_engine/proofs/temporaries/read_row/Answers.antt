@@ -1,7 +1,7 @@
 use Rattle.std.proofs.Common.{◌≡◌, sym, ◌∙◌, ◌+◌, Err, arith}
 use Rattle.lay_base.specs.declared.faults.UndefinedKind.TheVariants as K
 use Rattle.source_state.specs.RoomView.{core_of}
-use Rattle.source_steps.specs.Locals.{slot}
+use Rattle.source_state.specs.Steps.Locals.{slot}
 use Rattle.tac_engine.specs.States.{held}
 use Rattle.tac_engine.proofs.Rows.{no_more}
 use Rattle.tac_engine.proofs.temporaries.read_row.Goals as goal

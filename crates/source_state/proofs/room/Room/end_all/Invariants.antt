@@ -1,6 +1,6 @@
 use Rattle.std.proofs.Common.{◌≡◌, drop}
 use Rattle.source_state.specs.RoomView.{core_of}
-use Rattle.source_steps.specs.Locals.{end_all}
+use Rattle.source_state.specs.Steps.Locals.{end_all}
 use Rattle.source_state.proofs.room.Room.end_all.Given as goal
 
 abbrev pub invariant-loop-local : goal.invariant-loop-local

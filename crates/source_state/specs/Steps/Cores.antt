@@ -5,9 +5,9 @@ use Rattle.lay_base.specs.declared.place.Place.{Place}
 use Rattle.block_memory.specs.Blocks.{Memory}
 use Rattle.block_memory.specs.Tested.{Tested}
 use Rattle.c_meaning.specs.Frames.{Frame}
-use Rattle.source_steps.specs.Counting.{Counting}
-use Rattle.source_steps.specs.declared.ends.Final.{Final}
-use Rattle.source_steps.specs.declared.ends.Final.TheVariants.{Undefined}
+use Rattle.source_state.specs.Steps.Counting.{Counting}
+use Rattle.source_state.specs.declared.ends.Final.{Final}
+use Rattle.source_state.specs.declared.ends.Final.TheVariants.{Undefined}
 
 pub record Core : Type 0 where
   pub frame : Frame

@@ -5,8 +5,8 @@ use Rattle.block_memory.specs.declared.kinds.BlockKind.TheVariants as Kind
 use Rattle.c_meaning.specs.Frames.{Frame}
 use Rattle.c_meaning.specs.declared.frame.Slot.{Slot}
 use Rattle.c_meaning.specs.declared.frame.Slot.TheVariants.{ByName, InBlock}
-use Rattle.source_steps.specs.Cores.{Core, Does, and_then, done}
-use Rattle.source_steps.specs.Memories.{put_cells, make, end}
+use Rattle.source_state.specs.Steps.Cores.{Core, Does, and_then, done}
+use Rattle.source_state.specs.Steps.Memories.{put_cells, make, end}
 
 abbrev pub slot : Core → (local : ℕ) → Option Slot
 slot c x = slice_get c.frame x

@@ -34,15 +34,15 @@ use Rattle.block_memory.specs.declared.run_worlds.value.Value.TheVariants.{Word,
 use Rattle.block_memory.specs.RunWorlds.Worlds.{World, End, out_of_room, greatest_live, live_bytes}
 use Rattle.c_meaning.specs.Expressions.{field_in}
 use Rattle.c_meaning.specs.Frames.{Frame}
-use Rattle.source_steps.specs.Cores as Cores
-use Rattle.source_steps.specs.Cores.{Core, Does, done, and_then}
-use Rattle.source_steps.specs.Memories as Memories
-use Rattle.source_steps.specs.Memories.{living_size, put_cells, changed, freed_size}
-use Rattle.source_steps.specs.declared.ends.Final.{Final}
-use Rattle.source_steps.specs.declared.ends.Final.TheVariants.{Room}
-use Rattle.source_steps.proofs.Living.{live_put, live_end, live_new, live_within}
-use Rattle.source_steps.specs.Agreeing.{world, Agrees}
-use Rattle.source_steps.proofs.Parts.{Gives, Part, pure_part, undefined_part, reading, tested_part, bind_part}
+use Rattle.source_state.specs.Steps.Cores as Cores
+use Rattle.source_state.specs.Steps.Cores.{Core, Does, done, and_then}
+use Rattle.source_state.specs.Steps.Memories as Memories
+use Rattle.source_state.specs.Steps.Memories.{living_size, put_cells, changed, freed_size}
+use Rattle.source_state.specs.declared.ends.Final.{Final}
+use Rattle.source_state.specs.declared.ends.Final.TheVariants.{Room}
+use Rattle.source_state.proofs.Steps.Living.{live_put, live_end, live_new, live_within}
+use Rattle.source_state.specs.Steps.Agreeing.{world, Agrees}
+use Rattle.source_state.proofs.Steps.Parts.{Gives, Part, pure_part, undefined_part, reading, tested_part, bind_part}
 
 -- ---- an event that is neither written, nor read, nor counted
 

@@ -7,8 +7,8 @@ use Rattle.block_memory.specs.declared.kinds.BlockKind.{BlockKind}
 use Rattle.block_memory.specs.Blocks.{Memory, Block, Contents, living, ended, lives_in, size_in, block, kind, size, overwritten, with_cells}
 use Rattle.block_memory.specs.Lifetimes.{with_block, with_end}
 use Rattle.block_memory.specs.RunWorlds.Worlds.{live_in, live_bytes}
-use Rattle.source_steps.specs.Cores.{Core}
-use Rattle.source_steps.specs.Memories.{living_size, put_cells, with_memory}
+use Rattle.source_state.specs.Steps.Cores.{Core}
+use Rattle.source_state.specs.Steps.Memories.{living_size, put_cells, with_memory}
 
 -- ---- one block becomes another
 

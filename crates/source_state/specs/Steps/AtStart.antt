@@ -3,8 +3,8 @@ use Rattle.std.specs.Prelude.{◌≡◌, ℕ, zero, List, [], Some, slice_get}
 use Rattle.c_typed.specs.Programs.{ProgramData}
 use Rattle.block_memory.specs.RunWorlds.Worlds.{live_bytes}
 use Rattle.c_meaning.specs.Program.{initial_memory}
-use Rattle.source_steps.specs.Cores.{Core}
-use Rattle.source_steps.specs.Counting.{Counting}
+use Rattle.source_state.specs.Steps.Cores.{Core}
+use Rattle.source_state.specs.Steps.Counting.{Counting}
 
 pub record AreZero (counts : Counting) : Type 0 where
   pub entries : (f n : ℕ) → slice_get counts.entries f ≡ Some n → n ≡ zero

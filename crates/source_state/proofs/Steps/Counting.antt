@@ -4,7 +4,7 @@ use Rattle.std.proofs.Common.{slice_set, length, map, Option, Some, None, arith}
 use Rattle.std.proofs.Math.ListN.{length-set}
 use Rattle.std.proofs.lemmas.Bool.Decides.{eqb_tells}
 use Rattle.block_memory.specs.RunWorlds.Events.{one_if}
-use Rattle.source_steps.specs.Counting.{Counting, KeepsShape, one_more, risen, raised, raised_in, with_begin, with_entry}
+use Rattle.source_state.specs.Steps.Counting.{Counting, KeepsShape, one_more, risen, raised, raised_in, with_begin, with_entry}
 
 -- ---- one element of a list becomes another
 

@@ -6,14 +6,14 @@ use Rattle.block_memory.specs.RunWorlds.Doing.{◌>>◌, turn, turn_of, note}
 use Rattle.block_memory.specs.RunWorlds.Events.{Event, entered, began, left, one_if, entries_of, begins_of}
 use Rattle.block_memory.specs.RunWorlds.Worlds.{greatest_depth}
 use Rattle.c_meaning.specs.Frames.{Frame}
-use Rattle.source_steps.specs.Agreeing.{world, Agrees}
-use Rattle.source_steps.specs.Calls.{begun_by, begun, enter_by, enter, leave}
-use Rattle.source_steps.specs.Cores.{Core}
-use Rattle.source_steps.specs.Counting.{with_entry, with_begin}
-use Rattle.source_steps.specs.declared.ends.Final.TheVariants.{Room}
-use Rattle.source_steps.proofs.Counting.{keeps_begin, keeps_entry, raised_counts, all_raised_counts}
-use Rattle.source_steps.proofs.Memories.{either_gives}
-use Rattle.source_steps.proofs.Parts.{Gives, Part}
+use Rattle.source_state.specs.Steps.Agreeing.{world, Agrees}
+use Rattle.source_state.specs.Steps.Calls.{begun_by, begun, enter_by, enter, leave}
+use Rattle.source_state.specs.Steps.Cores.{Core}
+use Rattle.source_state.specs.Steps.Counting.{with_entry, with_begin}
+use Rattle.source_state.specs.declared.ends.Final.TheVariants.{Room}
+use Rattle.source_state.proofs.Steps.Counting.{keeps_begin, keeps_entry, raised_counts, all_raised_counts}
+use Rattle.source_state.proofs.Steps.Memories.{either_gives}
+use Rattle.source_state.proofs.Steps.Parts.{Gives, Part}
 
 -- ---- turns
 

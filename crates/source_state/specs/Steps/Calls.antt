@@ -11,11 +11,11 @@ use Rattle.block_memory.specs.RunWorlds.Worlds.{greatest_depth}
 use Rattle.c_meaning.specs.declared.frame.Slot.{Slot}
 use Rattle.c_meaning.specs.declared.frame.Slot.TheVariants.{ByName, InBlock}
 use Rattle.c_meaning.specs.Frames.{Frame}
-use Rattle.source_steps.specs.Cores.{Core, Does, done, tested}
-use Rattle.source_steps.specs.Counting.{with_entry, with_begin}
-use Rattle.source_steps.specs.Locals.{with_slot}
-use Rattle.source_steps.specs.Memories.{changed}
-use Rattle.source_steps.specs.declared.ends.Final.TheVariants.{TurnLimit, Room}
+use Rattle.source_state.specs.Steps.Cores.{Core, Does, done, tested}
+use Rattle.source_state.specs.Steps.Counting.{with_entry, with_begin}
+use Rattle.source_state.specs.Steps.Locals.{with_slot}
+use Rattle.source_state.specs.Steps.Memories.{changed}
+use Rattle.source_state.specs.declared.ends.Final.TheVariants.{TurnLimit, Room}
 
 -- the body of a loop begins
 abbrev pub begun_by : (turns : ℕ) → (function loop : ℕ) → Core → Does (Unit {0})

@@ -6,11 +6,11 @@ use Rattle.c_meaning.specs.Frames as Frames
 use Rattle.c_meaning.specs.Frames.{Frame, frame_now}
 use Rattle.c_meaning.specs.declared.frame.Slot.{Slot}
 use Rattle.c_meaning.specs.declared.frame.Slot.TheVariants.{ByName as by_name, InBlock as in_block}
-use Rattle.source_steps.specs.Agreeing.{Agrees}
-use Rattle.source_steps.specs.Cores.{Core, done}
-use Rattle.source_steps.specs.Locals.{with_slot, end_of, end_all}
-use Rattle.source_steps.proofs.Memories.{end_part}
-use Rattle.source_steps.proofs.Parts.{Part, pure_part, bind_part}
+use Rattle.source_state.specs.Steps.Agreeing.{Agrees}
+use Rattle.source_state.specs.Steps.Cores.{Core, done}
+use Rattle.source_state.specs.Steps.Locals.{with_slot, end_of, end_all}
+use Rattle.source_state.proofs.Steps.Memories.{end_part}
+use Rattle.source_state.proofs.Steps.Parts.{Part, pure_part, bind_part}
 
 -- the frame is not counted
 pub agrees_framed : (start c : Core) (own : Frame) (trace : List Event) → Agrees start c trace → Agrees start (record c { frame = own }) trace

@@ -20,8 +20,8 @@ use Rattle.block_memory.specs.RunWorlds.Worlds.{greatest_live}
 use Rattle.block_memory.specs.RunWorlds.LibraryCalls.{is_same_place}
 use Rattle.c_meaning.specs.declared.frame.Spot.{Spot}
 use Rattle.c_meaning.specs.declared.frame.Spot.TheVariants.{Placed}
-use Rattle.source_steps.specs.Cores.{Core, Does, and_then, done}
-use Rattle.source_steps.specs.declared.ends.Final.TheVariants.{Room}
+use Rattle.source_state.specs.Steps.Cores.{Core, Does, and_then, done}
+use Rattle.source_state.specs.declared.ends.Final.TheVariants.{Room}
 
 abbrev pub with_memory : Memory → Core → Core
 with_memory m c = record c { memory = m }

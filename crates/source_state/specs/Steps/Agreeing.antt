@@ -4,12 +4,12 @@ use Rattle.block_memory.specs.RunWorlds.Events.{Event, Call, putting, getting, e
 use Rattle.block_memory.specs.declared.run_worlds.value.Value.{Value}
 use Rattle.block_memory.specs.declared.run_worlds.value.Value.TheVariants.{Word}
 use Rattle.block_memory.specs.RunWorlds.Worlds.{World, End, ends, goes_on, undefined, out_of_room, live_bytes}
-use Rattle.source_steps.specs.Cores.{Core}
-use Rattle.source_steps.specs.Counting.{KeepsShape}
-use Rattle.source_steps.specs.declared.ends.Final.{Final}
-use Rattle.source_steps.specs.declared.ends.Final.TheVariants.{Ends, TurnLimit, Undefined, Room}
-use Rattle.source_steps.specs.declared.ends.Moved.{Moved}
-use Rattle.source_steps.specs.declared.ends.Moved.TheVariants.{Puts, Gets}
+use Rattle.source_state.specs.Steps.Cores.{Core}
+use Rattle.source_state.specs.Steps.Counting.{KeepsShape}
+use Rattle.source_state.specs.declared.ends.Final.{Final}
+use Rattle.source_state.specs.declared.ends.Final.TheVariants.{Ends, TurnLimit, Undefined, Room}
+use Rattle.source_state.specs.declared.ends.Moved.{Moved}
+use Rattle.source_state.specs.declared.ends.Moved.TheVariants.{Puts, Gets}
 
 -- within the room of the interpreter
 abbrev pub world : Core → (input : List ℕ) → (trace : List Event) → World

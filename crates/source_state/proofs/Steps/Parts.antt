@@ -8,10 +8,10 @@ use Rattle.block_memory.specs.RunWorlds.Events.{Event, calls_of}
 use Rattle.block_memory.specs.RunWorlds.Worlds.{End}
 use Rattle.c_meaning.specs.Frames.{Frame}
 use Rattle.c_meaning.specs.Outcomes.{Outcome, comes, over, with_rest}
-use Rattle.source_steps.specs.Agreeing.{world, end_of, Agrees}
-use Rattle.source_steps.specs.Cores.{Core, Does, done, behind, and_then}
-use Rattle.source_steps.specs.declared.ends.Final.{Final}
-use Rattle.source_steps.specs.declared.ends.Final.TheVariants.{Undefined}
+use Rattle.source_state.specs.Steps.Agreeing.{world, end_of, Agrees}
+use Rattle.source_state.specs.Steps.Cores.{Core, Does, done, behind, and_then}
+use Rattle.source_state.specs.declared.ends.Final.{Final}
+use Rattle.source_state.specs.declared.ends.Final.TheVariants.{Undefined}
 
 -- ---- a part with a result
 
