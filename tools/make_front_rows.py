@@ -1,5 +1,6 @@
 #!/usr/bin/env python3
-"""Makes what the program `crates/front_rows` is run on, and what it has to print, from `checker_rows/*.txt`, `profile_rows.txt` and `verdict_rows.txt`.
+"""Makes what the program `crates/front_rows` is run on, and what it has to print, from `checker_rows/*.txt`, `profile_rows.txt`, `verdict_rows.txt`
+and `code_rows.txt`.
 
 With `--check` it writes nothing, and the exit status is 1 where a file is another than the rows have it."""
 
@@ -13,6 +14,7 @@ from checking import HERE
 
 # Rows as they stand on the input, each with what has to be printed after its name below it, after `=`.
 PROFILE_ROWS = os.path.join(HERE, "tools", "profile_rows.txt")
+CODE_ROWS = os.path.join(HERE, "tools", "code_rows.txt")
 # Rows on records, as that file says.
 VERDICT_ROWS = os.path.join(HERE, "tools", "verdict_rows.txt")
 DECLARATIONS = (
@@ -73,13 +75,23 @@ def of_checker_rows():
             yield row.name, "\n".join(asked(row)), answer_of(row)
 
 
+def blocks_in(path):
+    """The blocks of lines of a file, without its comments."""
+    return re.sub(r"(?m)^#.*\n", "", row_files.text_in(path)).strip().split("\n\n")
+
+
+def of_standing_rows(path):
+    """The same of each row of a file that has them as they stand on the input."""
+    for block in blocks_in(path):
+        lines, _, answer = block.partition("\n=")
+        yield lines.split("\n")[0].split(" ")[1], lines, answer
+
+
 def of_profile_rows():
     """The same of each row on profiles. The last line of a text below `=` ends too."""
-    text = re.sub(r"(?m)^#.*\n", "", row_files.text_in(PROFILE_ROWS))
-    for block in text.strip().split("\n\n"):
-        lines, _, answer = block.partition("\n=")
+    for name, lines, answer in of_standing_rows(PROFILE_ROWS):
         end = "\n" if answer.startswith("\n") else ""
-        yield lines.split("\n")[0].split(" ")[1], lines, answer + end
+        yield name, lines, answer + end
 
 
 def marked_files(lines):
@@ -102,8 +114,7 @@ def marks_in(name, text):
 
 def of_verdict_rows():
     """The same of each row on records."""
-    text = re.sub(r"(?m)^#.*\n", "", row_files.text_in(VERDICT_ROWS))
-    for block in text.strip().split("\n\n"):
+    for block in blocks_in(VERDICT_ROWS):
         lines, _, answer = block.strip().partition("\n= ")
         head, *lines = lines.split("\n")
         question, _, row_name = head.rpartition(" ")
@@ -125,7 +136,7 @@ def of_verdict_rows():
 
 
 def main():
-    rows = [*of_checker_rows(), *of_profile_rows(), *of_verdict_rows()]
+    rows = [*of_checker_rows(), *of_profile_rows(), *of_verdict_rows(), *of_standing_rows(CODE_ROWS)]
     assert len({name for name, _, _ in rows}) == len(rows), "two rows have one name"
     return row_files.main("front_rows", [f"{block}\n" for _, block, _ in rows], [f"{name}:{answer}\n" for name, _, answer in rows])
 

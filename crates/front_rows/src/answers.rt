@@ -4,13 +4,13 @@ ghost use Rattle.std.specs.Prelude.{◌≤◌, All, IsTrue, length};
 
 use crate::faults::{Spots, put_fault};
 use crate::program_text::put_program;
+use crate::routine_text::put_code;
 use crate::row::{Question, Row};
 use crate::verdicts::put_verdicts;
 use crate::weights::put_weights;
-use c_link::Gap;
 use c_typed::Typed;
 use lay_base::{File, Files};
-use lay_compile::{CompileFault, front};
+use lay_compile::{CompileFault, Gap, front};
 use row_lines::Writer;
 use std::alloc::Global;
 use std::io::{self, Write};
@@ -28,6 +28,7 @@ fn put_of_program(out: &mut Writer, alloc: Global, row: &Row, files: &[File], pr
         Question::Check => out.word("accepted"),
         Question::Link => out.word("program"),
         Question::Show => put_program(out, alloc, program),
+        Question::Code => put_code(out, alloc, program),
         Question::Judge => put_verdicts(out, alloc, Spots { files, places }, program),
         Question::Weigh => put_weights(out, alloc, program),
     }

@@ -1,11 +1,9 @@
 //! The faults of files, as text.
 
-use c_check::CheckFault;
 use c_lexer::LexFault;
-use c_link::{Gap, Trouble};
 use c_parser::ParseFault;
 use lay_base::{File, Name, Place, keyword_text};
-use lay_compile::CompileFault;
+use lay_compile::{CheckFault, CompileFault, Gap, Trouble};
 use row_lines::Writer;
 
 /// What the text of a place depends on.

@@ -2,12 +2,12 @@
 
 use crate::allocation_text::put_allocations;
 use crate::type_text::{put_kind, put_type, put_type_at};
-use c_link::{Reference, references_by_statement};
 use c_typed::{
     Function, Initial, InitialValue, Local, Mention, MentionKind, Object, Statement, Typed,
 };
 use c_types::{Field, Record, Ty};
 use lay_base::{List, Place};
+use lay_compile::{Reference, references_by_statement};
 use row_lines::Writer;
 use std::alloc::{AllocError, Global};
 

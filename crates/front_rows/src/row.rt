@@ -12,6 +12,8 @@ pub enum Question {
     Link,
     /// Which program they are.
     Show,
+    /// Which code their functions have.
+    Code,
     /// Which of its records may be laid out anew.
     Judge,
     /// How often the fields of its records are accessed.
@@ -31,6 +33,7 @@ fn question_of(word: &str) -> Result<Question, RowFault> {
         "check" => Ok(Question::Check),
         "link" => Ok(Question::Link),
         "show" => Ok(Question::Show),
+        "code" => Ok(Question::Code),
         "judge" => Ok(Question::Judge),
         "weigh" => Ok(Question::Weigh),
         _ => Err(RowFault::NoRow),

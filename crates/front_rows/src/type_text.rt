@@ -3,7 +3,7 @@
 use c_types::{IntKind, Ty};
 use row_lines::Writer;
 
-fn kind_word(kind: IntKind) -> &'static str {
+pub fn kind_word(kind: IntKind) -> &'static str {
     match kind {
         IntKind::Char => "char",
         IntKind::SChar => "signed-char",

@@ -3,9 +3,8 @@
 use crate::operand_text::{
     put_access, put_numbered, put_operand, put_row, put_target, put_temporary,
 };
-use crate::operator_text::{
-    binary_text, compare_text, kind_text, library_text, pointer_text, unary_text,
-};
+use crate::operator_text::{binary_text, compare_text, library_text, pointer_text, unary_text};
+use crate::type_text::{kind_word, put_kind};
 use refusals::undefined_name;
 use row_lines::Writer;
 use tac_ir::{Operand, Row, Step};
@@ -57,16 +56,16 @@ fn put_value(out: &mut Writer, step: Step) {
         Step::Clear(t) => begin(out, t, "nothing"),
         Step::Unary(t, _, op, a) => put_one(out, t, unary_text(op), a),
         Step::Not(t, a) => put_one(out, t, "!", a),
-        Step::Convert(t, _, kind, a) => put_one(out, t, kind_text(kind), a),
+        Step::Convert(t, _, kind, a) => put_one(out, t, kind_word(kind), a),
         Step::AsPointer(t, _, a) => put_one(out, t, "pointer", a),
         Step::Number(t, _, a) => put_one(out, t, "number", a),
         Step::Binary(t, _, op, kind, _, a, b) => {
             put_two(out, t, binary_text(op), a, b);
-            out.word(kind_text(kind));
+            put_kind(out, kind);
         }
         Step::Compare(t, _, op, kind, a, b) => {
             put_two(out, t, compare_text(op), a, b);
-            out.word(kind_text(kind));
+            put_kind(out, kind);
         }
         Step::Move(t, _, op, size, _, _, a, b) => {
             put_two(out, t, pointer_text(op), a, b);
@@ -142,7 +141,7 @@ fn put_way(out: &mut Writer, step: Step) {
             out.word(compare_text(op));
             put_operand(out, a);
             put_operand(out, b);
-            out.word(kind_text(kind));
+            put_kind(out, kind);
             put_target(out, to);
         }
         Step::Case(n, a, to) => {

@@ -1,6 +1,6 @@
 //! Operands and targets as text.
 
-use crate::operator_text::kind_text;
+use crate::type_text::put_kind;
 use block_memory::Access;
 use itoa::Buffer;
 use row_lines::Writer;
@@ -49,7 +49,7 @@ pub fn put_target(out: &mut Writer, to: Target) {
 /// What is loaded or stored.
 pub fn put_access(out: &mut Writer, access: Access) {
     match access {
-        Access::Number(kind) => out.word(kind_text(kind)),
+        Access::Number(kind) => put_kind(out, kind),
         Access::Pointer(_) => out.word("*"),
     }
 }

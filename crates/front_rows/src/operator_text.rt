@@ -1,7 +1,6 @@
-//! Operators and kinds of numbers, as C spells them.
+//! Operators and functions of the library, as C spells them.
 
 use c_typed::{BinaryOp, CompareOp, LibraryFunction, PointerOp, UnaryOp};
-use c_types::IntKind;
 
 pub fn unary_text(op: UnaryOp) -> &'static str {
     match op {
@@ -56,19 +55,5 @@ pub fn library_text(which: LibraryFunction) -> &'static str {
         LibraryFunction::Putchar => "putchar",
         LibraryFunction::Getchar => "getchar",
         LibraryFunction::Exit => "exit",
-    }
-}
-
-pub fn kind_text(kind: IntKind) -> &'static str {
-    match kind {
-        IntKind::Char => "char",
-        IntKind::SChar => "signed-char",
-        IntKind::UChar => "unsigned-char",
-        IntKind::Short => "short",
-        IntKind::UShort => "unsigned-short",
-        IntKind::Int => "int",
-        IntKind::UInt => "unsigned",
-        IntKind::Long => "long",
-        IntKind::ULong => "unsigned-long",
     }
 }

@@ -3,7 +3,9 @@
 use crate::operand_text::put_numbered;
 use crate::step_text::put_step;
 use c_typed::Typed;
+use lower_tac::lower;
 use row_lines::Writer;
+use std::alloc::Global;
 use tac_ir::{Routine, Tac};
 
 /// The steps of a function, each with how many are left, and how many are left at each label.
@@ -25,7 +27,7 @@ fn put_routine(out: &mut Writer, routine: &Routine) {
 }
 
 /// The functions that have a body, in the order of the program.
-pub fn put_code(out: &mut Writer, program: &Typed, code: &Tac) {
+fn put_routines(out: &mut Writer, program: &Typed, code: &Tac) {
     for (function, routine) in program
         .functions
         .as_slice()
@@ -41,5 +43,12 @@ pub fn put_code(out: &mut Writer, program: &Typed, code: &Tac) {
             put_routine(out, routine);
             out.close();
         }
+    }
+}
+
+pub fn put_code(out: &mut Writer, alloc: Global, program: &Typed) {
+    match lower(alloc, program) {
+        Ok(code) => put_routines(out, program, &code),
+        Err(_) => out.word("out of memory"),
     }
 }
