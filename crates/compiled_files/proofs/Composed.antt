@@ -18,9 +18,9 @@ use Rattle.rv_isa.specs.Run.{run, start as machine_start}
 use Rattle.tac_ir.specs.Code.{Code, code_of}
 use Rattle.tac_ir.specs.Running.{code_run, go}
 use Rattle.tac_ir.specs.declared.step.Tac.{Tac}
-use Rattle.tac_runs.specs.Laws.{EarlierFits, LightRunsFit, RunsAdd, StepsAdd}
-use Rattle.tac_runs.specs.Room.{AllocationHasRoom, AreWithin, CallHasRoom}
 use Rattle.code_bounds.specs.CompiledLaws.{FunctionsAreAsLong, ProgramsAreAsLong, StepsAreAsLong}
+use Rattle.compiled_files.specs.CodeRuns.Laws.{EarlierFits, LightRunsFit, RunsAdd, StepsAdd}
+use Rattle.compiled_files.specs.CodeRuns.Room.{AllocationHasRoom, AreWithin, CallHasRoom}
 use Rattle.compiled_files.specs.Files.{IsFileOf}
 use Rattle.compiled_files.specs.Placing.{placed, room_of}
 use Rattle.compiled_files.specs.Sound.{IsSound}

@@ -1,3 +1,4 @@
+pub mod CodeRuns
 pub mod InImage
 pub mod Starting
 pub mod Soundness

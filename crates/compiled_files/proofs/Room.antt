@@ -19,10 +19,10 @@ use Rattle.rv_isa.specs.Memory as M
 use Rattle.rv_isa.specs.Step.{State}
 use Rattle.tac_ir.specs.Code.{Code, RoutineData}
 use Rattle.tac_ir.specs.Running.{Caller, body, go, no_place}
-use Rattle.tac_runs.specs.Active.{active, frames}
-use Rattle.tac_runs.specs.Growth.{Grew, Onward}
-use Rattle.tac_runs.specs.Laws.{EarlierFits, RunsAdd, StepsAdd}
-use Rattle.tac_runs.specs.Room.{AllocationHasRoom, CallHasRoom, Fits}
+use Rattle.compiled_files.specs.CodeRuns.Active.{active, frames}
+use Rattle.compiled_files.specs.CodeRuns.Growth.{Grew, Onward}
+use Rattle.compiled_files.specs.CodeRuns.Laws.{EarlierFits, RunsAdd, StepsAdd}
+use Rattle.compiled_files.specs.CodeRuns.Room.{AllocationHasRoom, CallHasRoom, Fits}
 use Rattle.compiled_files.specs.Placing.{placed, room_of}
 
 -- the frame of each function, by its number

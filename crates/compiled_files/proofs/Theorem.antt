@@ -12,8 +12,8 @@ use Rattle.code_bounds.specs.LoweredLaws.{JumpsStand, KindsStand, TypedHaveScope
 use Rattle.lower_tac.specs.Same.{RunsAreSame}
 use Rattle.tac_ir.specs.Code.{Code, code_of}
 use Rattle.tac_ir.specs.declared.step.Tac.{Tac}
-use Rattle.tac_runs.specs.Laws.{EarlierFits, LightRunsFit, RunsAdd, StepsAdd}
-use Rattle.tac_runs.specs.Room.{AllocationHasRoom, AreWithin, CallHasRoom}
+use Rattle.compiled_files.specs.CodeRuns.Laws.{EarlierFits, LightRunsFit, RunsAdd, StepsAdd}
+use Rattle.compiled_files.specs.CodeRuns.Room.{AllocationHasRoom, AreWithin, CallHasRoom}
 use Rattle.compiled_files.specs.Laws.{ImageIsOfProgram}
 use Rattle.compiled_files.specs.Sound.{IsSound}
 use Rattle.compiled_files.proofs.Composed.{file_is}

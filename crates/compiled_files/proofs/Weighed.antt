@@ -14,7 +14,7 @@ use Rattle.rv_code.specs.Frames.{frame_size}
 use Rattle.tac_ir.specs.Code.{RoutineData}
 use Rattle.tac_ir.specs.declared.step.Parameter.{Parameter}
 use Rattle.tac_ir.specs.declared.step.Step.{Step}
-use Rattle.tac_runs.specs.Room.{AreWithin}
+use Rattle.compiled_files.specs.CodeRuns.Room.{AreWithin}
 use Rattle.compiled_files.proofs.Room.{frame_if_any, frame_in}
 use Rattle.compiled_files.proofs.Soundness.Routines.{origin}
 use Rattle.compiled_files.proofs.Soundness.Sizing.{at_all}

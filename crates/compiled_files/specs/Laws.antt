@@ -1,4 +1,4 @@
--- The law of the crate.
+-- The law of images.
 use Rattle.std.specs.Prelude.{◌≡◌, ℕ, ◌^◌, ◌<◌, ◌≤◌, List, All, Ok}
 use Rattle.lay_base.specs.declared.place.File.{File}
 use Rattle.c_link.specs.Programs.{IsProgramOf}

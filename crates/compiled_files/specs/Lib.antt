@@ -1,3 +1,4 @@
+pub mod CodeRuns
 pub mod Placing
 pub mod Sound
 pub mod Files

@@ -1,8 +1,11 @@
-//! The law of the crate, by those below it.
+//! The law of images, by those of runs of code and those of the crates below.
 
 ghost use Rattle.c_typed.specs.Programs.{program_data};
 ghost use Rattle.compiled_files.specs.Laws.{ImageIsOfProgram};
 
+use crate::code_runs::{
+    allocations_have_room, calls_have_room, earlier_fits, light_runs_fit, runs_add, steps_add,
+};
 use c_meaning::runs_have_room;
 use c_printable::programs_are_printable;
 use c_typed::Typed;
@@ -13,9 +16,6 @@ use code_bounds::{
 };
 use lower_tac::runs_are_same;
 use tac_ir::Tac;
-use tac_runs::{
-    allocations_have_room, calls_have_room, earlier_fits, light_runs_fit, runs_add, steps_add,
-};
 
 /// The file of the image of a program of files is one of the program, where it loads as that image. What is known of such a program makes its code sound,
 /// sound code stands in the image, and the machine on it comes to what the run of the code comes to.
