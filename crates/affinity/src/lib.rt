@@ -8,6 +8,7 @@
 #![tactic(auto)]
 
 mod access;
+mod fields;
 mod laws;
 mod profile;
 mod sums;
@@ -15,5 +16,6 @@ mod walking;
 mod weights;
 
 pub use access::Access;
+pub use fields::FieldWeights;
 pub use laws::accesses_are_weighed;
 pub use weights::{Weights, weigh};

@@ -1,0 +1,6 @@
+pub mod Peeling
+pub mod Order
+pub mod Outlines
+pub mod Parts
+pub mod Plans
+mod Examples

@@ -1,0 +1,8 @@
+//! How the records of a program are laid out anew.
+#![tactic(auto)]
+
+mod outline;
+mod parts;
+mod plan;
+
+pub use plan::{Decision, PartField, Plan, RecordPlan};
