@@ -3,4 +3,5 @@ pub mod Order
 pub mod Outlines
 pub mod Parts
 pub mod Plans
+pub mod Planning
 mod Examples

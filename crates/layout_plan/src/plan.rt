@@ -1,5 +1,6 @@
 //! Plans: where the fields of the records of a program lie anew.
 
+use affinity::Weights;
 use lay_base::List;
 use legality::Violation;
 
@@ -35,4 +36,11 @@ pub struct RecordPlan {
 #[derive(Drop)]
 pub struct Plan {
     pub records: List<RecordPlan>,
+}
+
+/// A plan, and the weights by which it was made.
+#[derive(Drop)]
+pub struct Planned {
+    pub plan: Plan,
+    pub weights: Weights,
 }
