@@ -1,4 +1,5 @@
 pub mod Peeling
+pub mod Clearing
 pub mod Order
 pub mod Outlines
 pub mod Parts

@@ -3,6 +3,7 @@
 
 mod outline;
 mod parts;
+mod peeling;
 mod plan;
 
 pub use plan::{Decision, PartField, Plan, RecordPlan};
