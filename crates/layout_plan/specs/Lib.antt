@@ -1,6 +1,7 @@
 pub mod Peeling
 pub mod Clearing
 pub mod Order
+pub mod Joining
 pub mod Outlines
 pub mod Parts
 pub mod Plans

@@ -1,6 +1,7 @@
 //! How the records of a program are laid out anew.
 #![tactic(auto)]
 
+mod order;
 mod outline;
 mod parts;
 mod peeling;
