@@ -3,6 +3,7 @@ pub mod Clearing
 pub mod Order
 pub mod Joining
 pub mod Outlines
+pub mod Sides
 pub mod Parts
 pub mod Plans
 mod Examples

@@ -3,6 +3,7 @@
 
 mod order;
 mod outline;
+mod outlining;
 mod parts;
 mod peeling;
 mod plan;
