@@ -1,6 +1,9 @@
 pub mod Peeling
+pub mod Clearing
 pub mod Order
+pub mod Joining
 pub mod Outlines
+pub mod Sides
 pub mod Parts
 pub mod Plans
 pub mod Planning
