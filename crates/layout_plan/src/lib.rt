@@ -3,6 +3,7 @@
 
 mod outline;
 mod parts;
+mod placing;
 mod plan;
 
 pub use plan::{Decision, PartField, Plan, RecordPlan};
