@@ -1,5 +1,5 @@
 -- What functions on parts ask, and what private ones answer.
-use Rattle.std.specs.Prelude.{◌≡◌, ℕ, ◌≤◌, IsSomeAnd, IsTrue, List, [], ◌∷◌, length, All, slice_get}
+use Rattle.std.specs.Prelude.{◌≡◌, ℕ, ◌≤◌, Bool, IsSomeAnd, IsTrue, List, [], ◌∷◌, length, All, slice_get}
 use Rattle.c_types.specs.declared.record.Field.{Field}
 use Rattle.c_types.specs.declared.record.Record.{Record}
 use Rattle.c_types.specs.Layouts.{size_of}

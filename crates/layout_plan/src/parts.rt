@@ -1,6 +1,6 @@
 //! Parts of records: where their fields lie, and how large they are.
 
-ghost use Rattle.std.specs.Prelude.{◌≡◌, ◌<◌, ◌≤◌, ◌-◌, ◌^◌, fold, flat_map, length, map, max, min, nat_lt};
+ghost use Rattle.std.specs.Prelude.{◌≡◌, ◌<◌, ◌≤◌, ◌-◌, ◌^◌, [], fold, flat_map, length, map, max, min, nat_lt};
 ghost use Rattle.std.specs.Int.{next_multiple_of};
 ghost use Rattle.std.specs.List.{list_any};
 ghost use Rattle.c_types.specs.Layouts.{align_of, begin_after, end_after, greatest_alignment, layouts, size_of};
@@ -42,6 +42,7 @@ pub struct Span {
 }
 
 /// The fields of a record are objects that are no larger than it. This does nothing, as every law.
+#[tactic(auto, using(crate::proofs::Fields::fields_small))]
 pub fn fields_are_small(records: &Records, own: &[Field])
     requires { AreOwn records.now own.now }
     ensures { AreSmallObjects records.now own.now }
@@ -52,6 +53,7 @@ pub fn fields_are_small(records: &Records, own: &[Field])
 }
 
 /// The size of the field with that number, and of none 0.
+#[tactic(auto, using(crate::proofs::Fields::type_found, crate::proofs::Fields::type_missing))]
 fn size_at(records: &Records, own: &[Field], number: u32) -> u32
     requires { AreSmallObjects records.now own.now }
     ensures { result ≡ size_of (records_of records.now) (type_at (types_of_fields own.now) number) }
@@ -63,6 +65,7 @@ fn size_at(records: &Records, own: &[Field], number: u32) -> u32
 }
 
 /// The alignment of the field with that number, and of none 1.
+#[tactic(auto, using(crate::proofs::Fields::type_found, crate::proofs::Fields::type_missing))]
 fn alignment_at(records: &Records, own: &[Field], number: u32) -> u32
     requires { AreSmallObjects records.now own.now }
     ensures value { result ≡ align_of (records_of records.now) (type_at (types_of_fields own.now) number) }

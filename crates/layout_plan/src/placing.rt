@@ -29,7 +29,7 @@ fn place_part(
     requires objects { AreSmallObjects records.now own.now }
     requires small { fold (end_after (layouts (records_of records.now))) before (map (type_at (types_of_fields own.now)) fields.now) ≤ greatest_size }
     ensures { OnOk result (placed.new ≡ placed.old
-        ++ with_offsets part fields.now (offsets_after (layouts (records_of records.now)) before (map (type_at (types_of_fields own.now)) fields.now))) }
+        ++ with_offsets (records_of records.now) (types_of_fields own.now) part fields.now (offsets_after (layouts (records_of records.now)) before (map (type_at (types_of_fields own.now)) fields.now))) }
 {
     let mut end = before;
     for field in fields {
