@@ -1,8 +1,9 @@
 -- Where the fields of parts end, in numbers that stop at a greatest one, and how large parts are.
 use Rattle.std.proofs.Common.{◌≡◌, ℕ, zero, suc, ◌+◌, ◌<◌, ◌≤◌, List, [], ◌∷◌, ◌++◌, append_assoc, arith, refl, ◌∙◌, sym, ap, subst, length, drop, slice_index_or}
-use Rattle.std.specs.Prelude.{min, max, flat_map, fold, map}
+use Rattle.std.specs.Prelude.{All, min, max, flat_map, fold, map}
 use Rattle.std.specs.Int.{next_multiple_of}
 use Rattle.std.proofs.lemmas.List.{drop_more, map-append}
+use Rattle.std.proofs.lemmas.List.Elements.{All-head, All-rest, All-same}
 use Rattle.std.proofs.lemmas.List.Sums.{fold-append}
 use Rattle.c_types.specs.declared.layout.Layout.{Layout}
 use Rattle.c_types.specs.Layouts.{alignment_in, begin_after, end_after, greatest_alignment, layouts, offsets_after}
@@ -11,7 +12,7 @@ use Rattle.c_typed.specs.TypeNumbers.{type_at}
 use Rattle.layout_plan.specs.declared.parts.Placed.{Placed}
 use Rattle.layout_plan.specs.declared.plan.Decision.{Decision}
 use Rattle.layout_plan.specs.declared.plan.Decision.TheVariants.{Refused, Reordered, Split, Peeled}
-use Rattle.layout_plan.specs.Parts.{link, part_layout, placed_at, placed_in_part, with_offsets}
+use Rattle.layout_plan.specs.Parts.{link, part_layout, part_sizes, placed_at, placed_in_part, placed_in_parts, with_offsets}
 use Rattle.layout_plan.specs.PartSizes.{front_of}
 
 -- a greatest number in between changes nothing
@@ -86,33 +87,35 @@ module _ (known : List Layout) (type_in : ℕ → CType) (fields : List ℕ) (i 
       ∙ sym (ap (λ some. done ++ with_offsets records types part some (offsets_after known n (map type_in some))) (drop_more fields i d h))
       ∙ far
 
--- ---- from one part on, the fields of one part more
+-- ---- parts from one of them on, one part more
 
-module _ (known : List Layout) (type_in : ℕ → CType) (parts : List (List ℕ)) (i : ℕ) (fields : List ℕ) (h : i < length parts)
-    (is : fields ≡ slice_index_or parts i fields) where
-  abbrev all_after : List ℕ
-  all_after = flat_map (λ them. them) (drop (i + 1) parts)
+pub part_here : (parts shown : List (List ℕ)) (i : ℕ) (item fields : List ℕ) → shown ≡ parts → i < length shown → item ≡ slice_index_or shown i item
+    → fields ≡ item → drop i parts ≡ fields ∷ drop (i + 1) parts
+part_here parts shown i item fields same h is e =
+    let at : drop i shown ≡ fields ∷ drop (i + 1) shown = drop_more shown i item h ∙ ap (λ x. x ∷ drop (i + 1) shown) (sym is ∙ sym e) in
+    subst (λ (all : List (List ℕ)). drop i all ≡ fields ∷ drop (i + 1) all) same at
 
-  joined : map type_in (flat_map (λ them. them) (drop i parts)) ≡ map type_in fields ++ map type_in all_after
-  joined = ap (λ all. map type_in (flat_map (λ them. them) all)) (drop_more parts i fields h ∙ ap (λ x. x ∷ drop (i + 1) parts) (sym is))
-      ∙ map-append type_in fields all_after
+module _ (known : List Layout) (type_in : ℕ → CType) (here more : List (List ℕ)) (fields : List ℕ) (is : here ≡ fields ∷ more) where
+  abbrev all_more : List ℕ
+  all_more = flat_map (λ them. them) more
+
+  joined : map type_in (flat_map (λ them. them) here) ≡ map type_in fields ++ map type_in all_more
+  joined = ap (λ all. map type_in (flat_map (λ them. them) all)) is ∙ map-append type_in fields all_more
 
   pub end_parts : (n m most total : ℕ) → m ≡ min (fold (end_after known) n (map type_in fields)) most
-      → min (fold (end_after known) n (map type_in (flat_map (λ them. them) (drop i parts)))) most ≡ total
-      → min (fold (end_after known) m (map type_in all_after)) most ≡ total
+      → min (fold (end_after known) n (map type_in (flat_map (λ them. them) here))) most ≡ total → min (fold (end_after known) m (map type_in all_more)) most ≡ total
   end_parts n m most total e far =
-      ap (λ k. min (fold (end_after known) k (map type_in all_after)) most) e
-      ∙ capped_ends known (fold (end_after known) n (map type_in fields)) most (map type_in all_after)
-      ∙ sym (ap (λ k. min k most) (fold-append (end_after known) n (map type_in fields) (map type_in all_after)))
+      ap (λ k. min (fold (end_after known) k (map type_in all_more)) most) e
+      ∙ capped_ends known (fold (end_after known) n (map type_in fields)) most (map type_in all_more)
+      ∙ sym (ap (λ k. min k most) (fold-append (end_after known) n (map type_in fields) (map type_in all_more)))
       ∙ sym (ap (λ all. min (fold (end_after known) n all) most) joined)
       ∙ far
 
   pub alignment_parts : (a b total : ℕ) → b ≡ max a (greatest_alignment known (map type_in fields))
-      → max a (greatest_alignment known (map type_in (flat_map (λ them. them) (drop i parts)))) ≡ total
-      → max b (greatest_alignment known (map type_in all_after)) ≡ total
+      → max a (greatest_alignment known (map type_in (flat_map (λ them. them) here))) ≡ total → max b (greatest_alignment known (map type_in all_more)) ≡ total
   alignment_parts a b total e far =
       let one = ap (greatest_alignment known) joined in
-      omega (arith, one, greatest-append known (map type_in fields) (map type_in all_after), e, far)
+      omega (arith, one, greatest-append known (map type_in fields) (map type_in all_more), e, far)
 
 -- ---- parts behind their front
 
@@ -129,17 +132,6 @@ module _ (records : List Record) (types : List CType) where
   part_size_is Reordered part fields = ap (next_multiple_of _) (omega (arith, greatest_positive known_of (map (type_at types) fields)))
   part_size_is Peeled part fields = ap (next_multiple_of _) (omega (arith, greatest_positive known_of (map (type_at types) fields)))
 
-  pub capped_size : (decision : Decision) (part : ℕ) (fields : List ℕ) (end alignment most : ℕ)
-      → end ≡ min (fold (end_after known_of) (front_of (link decision part)).end (map (type_at types) fields)) most
-      → alignment ≡ max (front_of (link decision part)).alignment (greatest_alignment known_of (map (type_at types) fields))
-      → min (next_multiple_of end alignment) most ≡ min (part_layout records types (link decision part) fields).size most
-  capped_size decision part fields end alignment most e a =
-      ap (λ k. min (next_multiple_of k alignment) most) e
-      ∙ ap (λ k. min (next_multiple_of (min (fold (end_after known_of) (front_of (link decision part)).end (map (type_at types) fields)) most) k) most) a
-      ∙ capped_multiple (fold (end_after known_of) (front_of (link decision part)).end (map (type_at types) fields))
-          (max (front_of (link decision part)).alignment (greatest_alignment known_of (map (type_at types) fields))) most
-      ∙ sym (ap (λ k. min k most) (part_size_is decision part fields))
-
   pub ends_within : (decision : Decision) (part : ℕ) (fields : List ℕ) (limit : ℕ) → (part_layout records types (link decision part) fields).size ≤ limit
       → fold (end_after known_of) (front_of (link decision part)).end (map (type_at types) fields) ≤ limit
   ends_within decision part fields limit small = omega (arith, part_size_is decision part fields, small)
@@ -151,3 +143,42 @@ module _ (records : List Record) (types : List CType) where
   placed_part_is (Refused v) part fields = refl
   placed_part_is Reordered part fields = refl
   placed_part_is Peeled part fields = refl
+
+  module _ (decision : Decision) (part : ℕ) (here more : List (List ℕ)) (fields : List ℕ) (is : here ≡ fields ∷ more) where
+    abbrev size_here : ℕ
+    size_here = (part_layout records types (link decision part) fields).size
+
+    sizes_are : part_sizes records types decision part here ≡ size_here ∷ part_sizes records types decision (part + 1) more
+    sizes_are = ap (part_sizes records types decision part) is
+
+    pub small_here : (limit : ℕ) → All (λ size. size ≤ limit) (part_sizes records types decision part here) → size_here ≤ limit
+    small_here limit all =
+        All-head (λ size. size ≤ limit) size_here (part_sizes records types decision (part + 1) more)
+        (All-same (λ size. size ≤ limit) _ (part_sizes records types decision part here) (sym sizes_are) all)
+
+    pub small_more : (limit : ℕ) → All (λ size. size ≤ limit) (part_sizes records types decision part here)
+        → All (λ size. size ≤ limit) (part_sizes records types decision (part + 1) more)
+    small_more limit all =
+        All-rest (λ size. size ≤ limit) size_here (part_sizes records types decision (part + 1) more) (part_sizes records types decision part here) sizes_are all
+
+    pub size_more : (size : ℕ) (done new all : List ℕ) → size ≡ size_here → new ≡ done ++ size ∷ []
+        → done ++ part_sizes records types decision part here ≡ all → new ++ part_sizes records types decision (part + 1) more ≡ all
+    size_more size done new all e added far =
+        ap (λ some. some ++ part_sizes records types decision (part + 1) more) added
+        ∙ append_assoc done (size ∷ []) (part_sizes records types decision (part + 1) more)
+        ∙ ap (λ k. done ++ k ∷ part_sizes records types decision (part + 1) more) e
+        ∙ sym (ap (λ some. done ++ some) sizes_are)
+        ∙ far
+
+    pub part_more : (before : ℕ) (done new all : List Placed) → before ≡ (front_of (link decision part)).end
+        → new ≡ done ++ with_offsets records types part fields (offsets_after known_of before (map (type_at types) fields))
+        → done ++ placed_in_parts records types decision part here ≡ all → new ++ placed_in_parts records types decision (part + 1) more ≡ all
+    part_more before done new all e added far =
+        let places = with_offsets records types part fields (offsets_after known_of before (map (type_at types) fields)) in
+        let same : placed_in_part records types (link decision part) part fields ≡ places =
+        placed_part_is decision part fields ∙ sym (ap (λ k. with_offsets records types part fields (offsets_after known_of k (map (type_at types) fields))) e) in
+        ap (λ some. some ++ placed_in_parts records types decision (part + 1) more) added
+        ∙ append_assoc done places (placed_in_parts records types decision (part + 1) more)
+        ∙ sym (ap (λ some. done ++ (some ++ placed_in_parts records types decision (part + 1) more)) same)
+        ∙ sym (ap (λ some. done ++ placed_in_parts records types decision part some) is)
+        ∙ far

@@ -12,7 +12,7 @@ ghost use Rattle.layout_plan.specs.PartSizes.{AreOwn, AreSmallObjects, OutlinesA
 
 use crate::plan::{Decision, PartField};
 use c_types::{
-    Field, Records, align_of, fields_lie_apart, layouts_stay, records_are_complete,
+    Field, Records, added_records_have_their_size, align_of, fields_lie_apart, layouts_stay, records_are_complete,
     sizes_are_multiples, size_of,
 };
 use lay_base::List;
@@ -194,6 +194,7 @@ pub fn outlines_are_small(records: &Records, own: &[Field])
 {
     records_are_complete(records);
     layouts_stay();
+    added_records_have_their_size();
     sizes_are_multiples();
     let _ = own;
 }
