@@ -1,5 +1,6 @@
 -- Where the fields of parts end, in numbers that stop at a greatest one, and how large parts are.
-use Rattle.std.proofs.Common.{◌≡◌, ℕ, zero, suc, ◌+◌, ◌<◌, ◌≤◌, List, [], ◌∷◌, ◌++◌, append_assoc, arith, refl, ◌∙◌, sym, ap, subst, length, drop, slice_index_or}
+use Rattle.std.proofs.Common.{◌≡◌, ℕ, zero, suc, ◌+◌, ◌<◌, ◌≤◌, List, [], ◌∷◌, ◌++◌, length, drop, slice_index_or}
+use Rattle.std.proofs.Common.{append_assoc, arith, refl, ◌∙◌, sym, ap, subst}
 use Rattle.std.specs.Prelude.{All, min, max, flat_map, fold, map}
 use Rattle.std.specs.Int.{next_multiple_of}
 use Rattle.std.proofs.lemmas.List.{drop_more, map-append}
@@ -16,7 +17,7 @@ use Rattle.layout_plan.specs.Parts.{link, part_layout, part_sizes, placed_at, pl
 use Rattle.layout_plan.specs.PartSizes.{front_of}
 
 -- a greatest number in between changes nothing
-pub capped_multiple : (n unit most : ℕ) → min (next_multiple_of (min n most) unit) most ≡ min (next_multiple_of n unit) most
+capped_multiple : (n unit most : ℕ) → min (next_multiple_of (min n most) unit) most ≡ min (next_multiple_of n unit) most
 capped_multiple n unit most = grind arith
 
 pub end_from : (known : List Layout) (n : ℕ) (types : List CType) → n ≤ fold (end_after known) n types
@@ -64,7 +65,7 @@ module _ (known : List Layout) (type_in : ℕ → CType) (fields : List ℕ) (i 
       → max a (greatest_alignment known (map type_in (drop i fields))) ≡ total → max b (greatest_alignment known (map type_in after)) ≡ total
   alignment_more a b total e far =
       let one : max a (greatest_alignment known (map type_in (drop i fields)))
-          ≡ max a (max (alignment_in known (type_in here)) (greatest_alignment known (map type_in after))) =
+      ≡ max a (max (alignment_in known (type_in here)) (greatest_alignment known (map type_in after))) =
       ap (λ all. max a (greatest_alignment known (map type_in all))) (drop_more fields i d h) in
       omega (arith, one, e, far)
 
@@ -80,10 +81,11 @@ module _ (known : List Layout) (type_in : ℕ → CType) (fields : List ℕ) (i 
       → done ++ with_offsets records types part (drop i fields) (offsets_after known n (map type_in (drop i fields))) ≡ all
       → new ++ with_offsets records types part after (offsets_after known end (map type_in after)) ≡ all
   placed_more records types part n begin end done new all b e added far =
-      ap (λ some. some ++ with_offsets records types part after (offsets_after known end (map type_in after))) added
-      ∙ append_assoc done (placed_at here part begin ∷ []) (with_offsets records types part after (offsets_after known end (map type_in after)))
-      ∙ ap (λ k. done ++ placed_at here part k ∷ with_offsets records types part after (offsets_after known end (map type_in after))) b
-      ∙ ap (λ k. done ++ placed_at here part (begin_after known n (type_in here)) ∷ with_offsets records types part after (offsets_after known k (map type_in after))) e
+      let rest : ℕ → List Placed = λ k. with_offsets records types part after (offsets_after known k (map type_in after)) in
+      ap (λ some. some ++ rest end) added
+      ∙ append_assoc done (placed_at here part begin ∷ []) (rest end)
+      ∙ ap (λ k. done ++ placed_at here part k ∷ rest end) b
+      ∙ ap (λ k. done ++ placed_at here part (begin_after known n (type_in here)) ∷ rest k) e
       ∙ sym (ap (λ some. done ++ with_offsets records types part some (offsets_after known n (map type_in some))) (drop_more fields i d h))
       ∙ far
 
@@ -103,7 +105,8 @@ module _ (known : List Layout) (type_in : ℕ → CType) (here more : List (List
   joined = ap (λ all. map type_in (flat_map (λ them. them) all)) is ∙ map-append type_in fields all_more
 
   pub end_parts : (n m most total : ℕ) → m ≡ min (fold (end_after known) n (map type_in fields)) most
-      → min (fold (end_after known) n (map type_in (flat_map (λ them. them) here))) most ≡ total → min (fold (end_after known) m (map type_in all_more)) most ≡ total
+      → min (fold (end_after known) n (map type_in (flat_map (λ them. them) here))) most ≡ total
+      → min (fold (end_after known) m (map type_in all_more)) most ≡ total
   end_parts n m most total e far =
       ap (λ k. min (fold (end_after known) k (map type_in all_more)) most) e
       ∙ capped_ends known (fold (end_after known) n (map type_in fields)) most (map type_in all_more)
@@ -158,8 +161,8 @@ module _ (records : List Record) (types : List CType) where
 
     pub small_more : (limit : ℕ) → All (λ size. size ≤ limit) (part_sizes records types decision part here)
         → All (λ size. size ≤ limit) (part_sizes records types decision (part + 1) more)
-    small_more limit all =
-        All-rest (λ size. size ≤ limit) size_here (part_sizes records types decision (part + 1) more) (part_sizes records types decision part here) sizes_are all
+    small_more limit =
+        All-rest (λ size. size ≤ limit) size_here (part_sizes records types decision (part + 1) more) (part_sizes records types decision part here) sizes_are
 
     pub size_more : (size : ℕ) (done new all : List ℕ) → size ≡ size_here → new ≡ done ++ size ∷ []
         → done ++ part_sizes records types decision part here ≡ all → new ++ part_sizes records types decision (part + 1) more ≡ all
@@ -174,11 +177,11 @@ module _ (records : List Record) (types : List CType) where
         → new ≡ done ++ with_offsets records types part fields (offsets_after known_of before (map (type_at types) fields))
         → done ++ placed_in_parts records types decision part here ≡ all → new ++ placed_in_parts records types decision (part + 1) more ≡ all
     part_more before done new all e added far =
-        let places = with_offsets records types part fields (offsets_after known_of before (map (type_at types) fields)) in
-        let same : placed_in_part records types (link decision part) part fields ≡ places =
-        placed_part_is decision part fields ∙ sym (ap (λ k. with_offsets records types part fields (offsets_after known_of k (map (type_at types) fields))) e) in
-        ap (λ some. some ++ placed_in_parts records types decision (part + 1) more) added
-        ∙ append_assoc done places (placed_in_parts records types decision (part + 1) more)
-        ∙ sym (ap (λ some. done ++ (some ++ placed_in_parts records types decision (part + 1) more)) same)
+        let places : ℕ → List Placed = λ k. with_offsets records types part fields (offsets_after known_of k (map (type_at types) fields)) in
+        let rest = placed_in_parts records types decision (part + 1) more in
+        let same : placed_in_part records types (link decision part) part fields ≡ places before = placed_part_is decision part fields ∙ sym (ap places e) in
+        ap (λ some. some ++ rest) added
+        ∙ append_assoc done (places before) rest
+        ∙ sym (ap (λ some. done ++ (some ++ rest)) same)
         ∙ sym (ap (λ some. done ++ placed_in_parts records types decision part some) is)
         ∙ far

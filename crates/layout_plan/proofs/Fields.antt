@@ -1,14 +1,13 @@
 -- The fields of a record of a list: their types, and that they are small objects.
-use Rattle.std.proofs.Common.{◌≡◌, ℕ, ◌<◌, ◌≤◌, ◌+◌, List, length, slice_index_or, arith, refl, sym, ap, ◌∙◌, IsTrue}
-use Rattle.std.specs.Prelude.{All, IsSomeAnd, Option, Some, None, map, nat_lt, option_map, slice_get}
+use Rattle.std.proofs.Common.{◌≡◌, ℕ, ◌<◌, ◌≤◌, List, length, slice_index_or, arith, refl, sym, ap, ◌∙◌, IsTrue}
+use Rattle.std.specs.Prelude.{IsSomeAnd, Option, Some, None, map, nat_lt, option_map, slice_get}
 use Rattle.std.proofs.lemmas.Bool.{and_from, and_parts, lt-ltb, ltb-true}
 use Rattle.std.proofs.lemmas.List.{length-map}
 use Rattle.std.proofs.lemmas.Option.{get_or_from_slice_get, slice_get-get_or, slice_get-map, slice_get_past, slice_get_within}
 use Rattle.c_types.specs.declared.record.Field.{Field}
 use Rattle.c_types.specs.declared.record.Record as R
 use Rattle.c_types.specs.Laws.{FieldsLieApart}
-use Rattle.c_types.specs.Layouts.{size_of}
-use Rattle.c_types.specs.Limits.{AreComplete, AreSmall, greatest_size}
+use Rattle.c_types.specs.Limits.{AreComplete, AreSmall}
 use Rattle.c_types.specs.Objects.{is_object}
 use Rattle.c_types.specs.Types.{CType, void, integer, pointer, array, function, structure}
 use Rattle.c_types.specs.Types as T
@@ -18,7 +17,7 @@ use Rattle.layout_plan.specs.PartSizes.{AreOwn, AreSmallObjects}
 
 -- ---- the type of a field
 
-pub types_at : (own : List Field) (n : ℕ) (f : Field) → n < length own → f ≡ slice_index_or own n f
+types_at : (own : List Field) (n : ℕ) (f : Field) → n < length own → f ≡ slice_index_or own n f
     → slice_get (types_of_fields own) n ≡ Some (type_of f.ty)
 types_at own n f h is =
     slice_get-map (λ (x : T.Field). x.ty) (map field_of own) n
@@ -38,7 +37,7 @@ type_missing own n h = rw (slice_get_past (types_of_fields own) n (rw (length-ty
 -- ---- that they are small objects
 
 -- what is complete stays so over more records
-pub object_later : (n m : ℕ) (t : CType) → n ≤ m → IsTrue (is_object n t) → IsTrue (is_object m t)
+object_later : (n m : ℕ) (t : CType) → n ≤ m → IsTrue (is_object n t) → IsTrue (is_object m t)
 object_later n m void le h = h
 object_later n m (integer kind) le h = h
 object_later n m (pointer t) le h = h
@@ -58,8 +57,8 @@ small_at records number r is complete small apart k d h =
     let inside : number < length records = slice_get_within records number r is in
     let t = type_of f.ty in
     let early : IsTrue (is_object number t) =
-        rw (sym (get_or_from_slice_get (types_of_fields r.fields) k t t found))
-        (complete number (record_of r) there k t (rw (length-types r.fields) h)) in
+    rw (sym (get_or_from_slice_get (types_of_fields r.fields) k t t found))
+    (complete number (record_of r) there k t (rw (length-types r.fields) h)) in
     let within = apart.within number k t (rw there found) in
     let bounded = small number (rw (length-map records record_of) inside) in
     (object_later number (length records) t (omega (arith, inside)) early, omega (arith, within, bounded))

@@ -1,7 +1,8 @@
 -- No part of an outline is larger than a record may be.
 use Rattle.std.proofs.Common.{◌≡◌, ◌⊎◌, ⊎_elim, inl, inr, ℕ, zero, suc, ◌+◌, ◌-◌, ◌<◌, ◌≤◌, List, [], ◌∷◌, ◌++◌, length, take, drop}
 use Rattle.std.proofs.Common.{Bool, true, false, cond, add-one, append_assoc, arith, length-append, refl, ◌∙◌, sym, ap, subst}
-use Rattle.std.specs.Prelude.{All, IsSomeAnd, IsTrue, Option, Some, None, ◌==◌, ◌||◌, if◌then◌else◌, filter, flat_map, fold, map, max, nat_lt, not, option_map, slice_get}
+use Rattle.std.specs.Prelude.{All, IsSomeAnd, IsTrue, Option, Some, None, ◌==◌, ◌||◌, if◌then◌else◌, not, nat_lt, max}
+use Rattle.std.specs.Prelude.{filter, flat_map, fold, map, option_map, slice_get}
 use Rattle.std.specs.Int.{next_multiple_of}
 use Rattle.std.specs.List.{list_any}
 use Rattle.std.proofs.lemmas.Bool.{lt-ltb, ltb-false, or_parts}
@@ -72,9 +73,11 @@ module _ (known : List Layout) (ones : (t : CType) → IsOne (alignment_in known
 
   size_less : (some all : List CType) → IsLess some all → (layout known some).size ≤ (layout known all).size
   size_less some all less =
-      let end = begin_less (fold (end_after known) 0 some) (fold (end_after known) 0 all) (greatest_alignment known some) (greatest_one some) less.0 in
-      let up = round_less (fold (end_after known) 0 all) (greatest_alignment known some) (greatest_alignment known all) (greatest_one some) (greatest_one all) less.1 in
-      omega (arith, end, up)
+      let a = greatest_alignment known some in
+      let b = greatest_alignment known all in
+      let n = fold (end_after known) 0 some in
+      let m = fold (end_after known) 0 all in
+      omega (arith, begin_less n m a (greatest_one some) less.0, round_less m a b (greatest_one some) (greatest_one all) less.1)
 
   end_less : (n m : ℕ) (t : CType) → n ≤ m → end_after known n t ≤ end_after known m t
   end_less n m t le = omega (arith, begin_less n m (alignment_in known t) (ones t) le)
@@ -93,10 +96,13 @@ module _ (known : List Layout) (ones : (t : CType) → IsOne (alignment_in known
           by (keeps f) (ends_less more (end_after known n (type_in f)) (end_after known m (type_in f)) (end_less n m (type_in f) le))
           (ends_less more n (end_after known m (type_in f)) (omega (arith, le, end_from known m (type_in f ∷ []))))
         where
-          by : (b : Bool) → fold (end_after known) (end_after known n (type_in f)) (map type_in (filter keeps more))
+          IsNoLater : (start : ℕ) → List ℕ → Type 0
+          IsNoLater start fields =
+              fold (end_after known) start (map type_in fields) ≤ fold (end_after known) (end_after known m (type_in f)) (map type_in more)
+
+          by : (b : Bool) → IsNoLater (end_after known n (type_in f)) (filter keeps more) → IsNoLater n (filter keeps more)
+              → fold (end_after known) n (map type_in (cond b (f ∷ filter keeps more) (filter keeps more)))
               ≤ fold (end_after known) (end_after known m (type_in f)) (map type_in more)
-              → fold (end_after known) n (map type_in (filter keeps more)) ≤ fold (end_after known) (end_after known m (type_in f)) (map type_in more) → fold (end_after known) n (map type_in (cond b (f ∷ filter keeps more) (filter keeps more)))
-              ≤ fold (end_after known) m (map type_in (f ∷ more))
           by true kept less = kept
           by false kept less = less
 
@@ -126,18 +132,21 @@ numbered types (suc n) h =
 all_numbered : (types : List CType) → map (type_at types) (numbers_below (length types)) ≡ types
 all_numbered types = numbered types (length types) (omega arith) ∙ take_all (length types) types (omega arith)
 
--- what is said of types that are complete is said in both lists
-same_ends : (known later : List Layout) (types : List CType) (n : ℕ)
-    → ((k : ℕ) (t : CType) → slice_get types k ≡ Some t → (size_in later t ≡ size_in known t) × (alignment_in later t ≡ alignment_in known t))
+-- layouts that say the same of each type of a list
+abbrev AreAlike : (known later : List Layout) → List CType → Type 0
+AreAlike known later types =
+    (k : ℕ) (t : CType) → slice_get types k ≡ Some t → (size_in later t ≡ size_in known t) × (alignment_in later t ≡ alignment_in known t)
+
+same_ends : (known later : List Layout) (types : List CType) (n : ℕ) → AreAlike known later types
     → fold (end_after later) n types ≡ fold (end_after known) n types
 same_ends known later [] n same = refl
 same_ends known later (t ∷ more) n same =
     let here = same 0 t refl in
-    let end : end_after later n t ≡ end_after known n t = ap (λ a. next_multiple_of n a + size_in later t) here.1 ∙ ap (λ s. next_multiple_of n (alignment_in known t) + s) here.0 in
-    ap (λ m. fold (end_after later) m more) end ∙ same_ends known later more (end_after known n t) (λ k u e. same (suc k) u e)
+    ap (λ a. fold (end_after later) (next_multiple_of n a + size_in later t) more) here.1
+    ∙ ap (λ s. fold (end_after later) (next_multiple_of n (alignment_in known t) + s) more) here.0
+    ∙ same_ends known later more (end_after known n t) (λ k u e. same (suc k) u e)
 
-same_greatest : (known later : List Layout) (types : List CType)
-    → ((k : ℕ) (t : CType) → slice_get types k ≡ Some t → (size_in later t ≡ size_in known t) × (alignment_in later t ≡ alignment_in known t))
+same_greatest : (known later : List Layout) (types : List CType) → AreAlike known later types
     → greatest_alignment later types ≡ greatest_alignment known types
 same_greatest known later [] same = refl
 same_greatest known later (t ∷ more) same =
@@ -164,25 +173,27 @@ module _ (stays : (records more : List Record) → LayoutsStay records more) (it
   record_size : size_of records (structure number) ≡ (layout (layouts before) (field_types r)).size
   record_size = ap (λ all. size_of all (structure number)) (parted ∙ sym (append_assoc before (r ∷ []) (drop (number + 1) records)))
       ∙ (stays (before ++ r ∷ []) (drop (number + 1) records)).sizes (structure number)
-          (lt-ltb number (length (before ++ r ∷ [])) (omega (arith, length-before, length-append before (r ∷ []))))
+      (lt-ltb number (length (before ++ r ∷ [])) (omega (arith, length-before, length-append before (r ∷ []))))
       ∙ ap (λ n. size_of (before ++ r ∷ []) (structure n)) (sym length-before)
       ∙ its_size before r
 
   whole_size : AreComplete records → (layout (layouts records) (field_types r)).size ≡ size_of records (structure number)
   whole_size complete =
-      ap (λ end. next_multiple_of end (greatest_alignment (layouts records) (field_types r))) (same_ends (layouts before) (layouts records) (field_types r) 0 same)
-      ∙ ap (next_multiple_of (fold (end_after (layouts before)) 0 (field_types r))) (same_greatest (layouts before) (layouts records) (field_types r) same)
+      let known = layouts before in
+      let later = layouts records in
+      ap (λ end. next_multiple_of end (greatest_alignment later (field_types r))) (same_ends known later (field_types r) 0 same)
+      ∙ ap (next_multiple_of (fold (end_after known) 0 (field_types r))) (same_greatest known later (field_types r) same)
       ∙ sym record_size
     where
-      same : (k : ℕ) (t : CType) → slice_get (field_types r) k ≡ Some t
-          → (size_in (layouts records) t ≡ size_in (layouts before) t) × (alignment_in (layouts records) t ≡ alignment_in (layouts before) t)
+      same : AreAlike (layouts before) (layouts records) (field_types r)
       same k t e =
           let at : IsTrue (is_object number t) =
           rw (sym (get_or_from_slice_get (field_types r) k t t e)) (complete number r is k t (slice_get_within (field_types r) k t e)) in
           let object : IsTrue (is_object (length before) t) = rw length-before at in
-          let all = sym (take-append-drop number records) in
-          (ap (λ them. size_of them t) all ∙ (stays before (drop number records)).sizes t object,
-           ap (λ them. align_of them t) all ∙ (stays before (drop number records)).alignments t object)
+          let all = sym (take-append-drop number records) in (
+            ap (λ them. size_of them t) all ∙ (stays before (drop number records)).sizes t object,
+            ap (λ them. align_of them t) all ∙ (stays before (drop number records)).alignments t object,
+          )
 
 -- ---- outlines
 
@@ -275,8 +286,12 @@ module _ (stays : (records more : List Record) → LayoutsStay records more) (it
       → IsLess (layouts records) (multiples records).one_of (map (type_at types) fields) (map (type_at types) (numbers_below (length types)))
       → IsSmallPart records types fields
   less_small fields less =
-      omega (arith, all_small, size_less (layouts records) (multiples records).one_of (map (type_at types) fields)
-      (map (type_at types) (numbers_below (length types))) less)
+      omega (
+        arith,
+        all_small,
+        size_less (layouts records) (multiples records).one_of (map (type_at types) fields)
+            (map (type_at types) (numbers_below (length types))) less,
+      )
 
   live_small : (w : FieldWeights) → IsSmallPart records types (live w (length types))
   live_small w =

@@ -1,19 +1,17 @@
 //! Parts of records: where their fields lie, and how large they are.
 
-ghost use Rattle.std.specs.Prelude.{◌≡◌, ◌<◌, ◌≤◌, ◌-◌, ◌^◌, [], fold, flat_map, length, map, max, min, nat_lt};
+ghost use Rattle.std.specs.Prelude.{◌≡◌, ◌<◌, ◌-◌, ◌^◌, [], fold, flat_map, map, max, min};
 ghost use Rattle.std.specs.Int.{next_multiple_of};
-ghost use Rattle.std.specs.List.{list_any};
 ghost use Rattle.c_types.specs.Layouts.{align_of, begin_after, end_after, greatest_alignment, layouts, size_of};
-ghost use Rattle.c_types.specs.Limits.{greatest_size};
 ghost use Rattle.c_types.specs.Views.{records_of, types_of_fields};
 ghost use Rattle.c_typed.specs.TypeNumbers.{type_at};
-ghost use Rattle.layout_plan.specs.Parts.{is_too_big, link, part_layout, part_sizes};
+ghost use Rattle.layout_plan.specs.Parts.{is_too_big, link, part_layout};
 ghost use Rattle.layout_plan.specs.PartSizes.{AreOwn, AreSmallObjects, OutlinesAreSmall, front_of};
 
 use crate::plan::{Decision, PartField};
 use c_types::{
-    Field, Records, added_records_have_their_size, align_of, fields_lie_apart, layouts_stay, records_are_complete,
-    sizes_are_multiples, size_of,
+    Field, Records, added_records_have_their_size, align_of, fields_lie_apart, layouts_stay,
+    records_are_complete, size_of, sizes_are_multiples,
 };
 use lay_base::List;
 
@@ -41,8 +39,7 @@ pub struct Span {
     pub end: u64,
 }
 
-/// The fields of a record are objects that are no larger than it. This does nothing, as every law.
-#[tactic(auto, using(crate::proofs::Fields::fields_small))]
+/// The fields of a record are objects, and none is larger than a type may be. This does nothing, as every law.
 pub fn fields_are_small(records: &Records, own: &[Field])
     requires { AreOwn records.now own.now }
     ensures { AreSmallObjects records.now own.now }
@@ -166,12 +163,7 @@ fn whole_size(records: &Records, own: &[Field], parts: &[List<u32>]) -> u64
 }
 
 /// Whether a part, or one record with the fields of all parts, is larger than a record may be.
-pub fn is_too_big(
-    records: &Records,
-    own: &[Field],
-    decision: Decision,
-    parts: &[List<u32>],
-) -> bool
+pub fn is_too_big(records: &Records, own: &[Field], decision: Decision, parts: &[List<u32>]) -> bool
     requires { AreOwn records.now own.now }
     ensures { result ≡ is_too_big (records_of records.now) (types_of_fields own.now) decision parts.now }
 {

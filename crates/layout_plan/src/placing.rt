@@ -1,6 +1,6 @@
 //! Where the fields of a record lie by its outline.
 
-ghost use Rattle.std.specs.Prelude.{◌≡◌, ◌≤◌, ◌<◌, ◌++◌, ◌^◌, IfOk, OnOk, fold, length, map};
+ghost use Rattle.std.specs.Prelude.{◌≡◌, ◌≤◌, ◌++◌, IfOk, OnOk, fold, length, map};
 ghost use Rattle.c_types.specs.Layouts.{end_after, layouts, offsets_after};
 ghost use Rattle.c_types.specs.Limits.{greatest_size};
 ghost use Rattle.c_types.specs.Views.{records_of, types_of_fields};
@@ -28,8 +28,8 @@ fn place_part(
 ) -> Result<(), NoMemory>
     requires objects { AreSmallObjects records.now own.now }
     requires small { fold (end_after (layouts (records_of records.now))) before (map (type_at (types_of_fields own.now)) fields.now) ≤ greatest_size }
-    ensures { OnOk result (placed.new ≡ placed.old
-        ++ with_offsets (records_of records.now) (types_of_fields own.now) part fields.now (offsets_after (layouts (records_of records.now)) before (map (type_at (types_of_fields own.now)) fields.now))) }
+    ensures { OnOk result (placed.new ≡ placed.old ++ with_offsets (records_of records.now) (types_of_fields own.now) part fields.now
+        (offsets_after (layouts (records_of records.now)) before (map (type_at (types_of_fields own.now)) fields.now))) }
 {
     let mut end = before;
     for field in fields {

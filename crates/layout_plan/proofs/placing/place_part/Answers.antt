@@ -10,7 +10,7 @@ overflow_cast-at c =
     let known = layouts (records_of c.args.records.now) in
     let type_in = type_at (types_of_fields c.args.own.now) in
     let near = this_within known type_in c.args.fields.now c.loop-field.field-index 0 c.loop-field-test.true c.loop-field.end (2 ^ 24)
-        c.loop-field.invariant.end in
+    c.loop-field.invariant.end in
     omega (arith, near, c.span_after-span.ensures.begin)
 
 pub loop-field-preserved : goal.loop-field-preserved
@@ -18,7 +18,7 @@ loop-field-preserved c =
     let known = layouts (records_of c.args.records.now) in
     let type_in = type_at (types_of_fields c.args.own.now) in
     let near = this_within known type_in c.args.fields.now c.loop-field.field-index 0 c.loop-field-test.true c.loop-field.end (2 ^ 24)
-        c.loop-field.invariant.end in
+    c.loop-field.invariant.end in
     let t = type_in (slice_index_or c.args.fields.now c.loop-field.field-index 0) in
     let begin : c.span_after-span.result.begin ≡ begin_after known c.loop-field.end t = omega (arith, near, c.span_after-span.ensures.begin) in
     let end : c.span_after-span.result.end ≡ end_after known c.loop-field.end t = omega (arith, near, c.span_after-span.ensures.end) in

@@ -1,4 +1,4 @@
-use Rattle.std.proofs.Common.{◌≡◌, ◌<◌, ◌∷◌, ◌≤◌, ◌∙◌, ap, arith, drop, length, sym, ◌+◌, ◌^◌}
+use Rattle.std.proofs.Common.{◌≡◌, ◌∷◌, ap, arith, drop, ◌+◌}
 use Rattle.c_types.specs.Limits.{greatest_size}
 use Rattle.c_types.specs.Views.{records_of, types_of_fields}
 use Rattle.layout_plan.specs.Parts.{link, part_layout}
@@ -11,9 +11,13 @@ overflow_cast-size c =
     let parts = c.args.o.parts in
     let i = c.loop-part.part in
     let here = part_here parts c.as_slice-parts.result.now i c.index-parts-part.result c.as_slice-fields.result.now c.as_slice-parts.ensures
-        c.loop-part-test.true c.index-parts-part.is c.as_slice-fields.ensures in
-    omega (arith, c.part_size-size.ensures, small_here (records_of c.args.records.now) (types_of_fields c.args.own.now) c.args.o.decision i (drop i parts)
-        (drop (i + 1) parts) c.as_slice-fields.result.now here greatest_size c.loop-part.invariant.small)
+    c.loop-part-test.true c.index-parts-part.is c.as_slice-fields.ensures in
+    omega (
+      arith,
+      c.part_size-size.ensures,
+      small_here (records_of c.args.records.now) (types_of_fields c.args.own.now) c.args.o.decision i (drop i parts)
+          (drop (i + 1) parts) c.as_slice-fields.result.now here greatest_size c.loop-part.invariant.small,
+    )
 
 pub place_part-requires-clause-small : goal.place_part-requires-clause-small
 place_part-requires-clause-small c =
@@ -21,7 +25,7 @@ place_part-requires-clause-small c =
     let i = c.loop-part.part in
     let fields = c.as_slice-fields.result.now in
     let here = part_here parts c.as_slice-parts.result.now i c.index-parts-part.result fields c.as_slice-parts.ensures
-        c.loop-part-test.true c.index-parts-part.is c.as_slice-fields.ensures in
+    c.loop-part-test.true c.index-parts-part.is c.as_slice-fields.ensures in
     rw (ap (λ (it : Extent). it.end) c.front-before.ensures)
     (ends_within (records_of c.args.records.now) (types_of_fields c.args.own.now) c.args.o.decision i fields greatest_size
     (small_here (records_of c.args.records.now) (types_of_fields c.args.own.now) c.args.o.decision i (drop i parts) (drop (i + 1) parts) fields here
@@ -36,8 +40,8 @@ loop-part-preserved c =
     let i = c.loop-part.part in
     let fields = c.as_slice-fields.result.now in
     let here : drop i parts ≡ fields ∷ drop (i + 1) parts =
-        part_here parts c.as_slice-parts.result.now i c.index-parts-part.result fields c.as_slice-parts.ensures
-        c.loop-part-test.true c.index-parts-part.is c.as_slice-fields.ensures in
+    part_here parts c.as_slice-parts.result.now i c.index-parts-part.result fields c.as_slice-parts.ensures
+    c.loop-part-test.true c.index-parts-part.is c.as_slice-fields.ensures in
     let small = small_here records types decision i (drop i parts) (drop (i + 1) parts) fields here greatest_size c.loop-part.invariant.small in
     let size : c.part_size-size.result ≡ (part_layout records types (link decision i) fields).size = omega (arith, c.part_size-size.ensures, small) in
     record {
