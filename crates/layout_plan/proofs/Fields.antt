@@ -1,5 +1,5 @@
 -- The fields of a record of a list: their types, and that they are small objects.
-use Rattle.std.proofs.Common.{◌≡◌, ℕ, ◌<◌, ◌≤◌, List, length, slice_index_or, arith, refl, sym, ap, ◌∙◌, IsTrue}
+use Rattle.std.proofs.Common.{◌≡◌, ℕ, ◌<◌, ◌≤◌, List, length, slice_index_or, arith, refl, sym, ap, subst, ◌∙◌, IsTrue}
 use Rattle.std.specs.Prelude.{IsSomeAnd, Option, Some, None, map, nat_lt, option_map, slice_get}
 use Rattle.std.proofs.lemmas.Bool.{and_from, and_parts, lt-ltb, ltb-true}
 use Rattle.std.proofs.lemmas.List.{length-map}
@@ -70,3 +70,7 @@ fields_small records own (number, are) complete small apart = by (slice_get reco
     by : (o : Option R.Record) → slice_get records number ≡ o → IsSomeAnd o (λ r. r.fields ≡ own) → AreSmallObjects records own
     by None e h = absurd h
     by (Some r) e h = rw (sym h) (small_at records number r e complete small apart)
+
+-- for callers: the fields of a record of the list are such
+pub are_own : (records : List R.Record) (own : List Field) (number : ℕ) (r : R.Record) → slice_get records number ≡ Some r → own ≡ r.fields → AreOwn records own
+are_own records own number r is same = (number, subst (λ o. IsSomeAnd o (λ it. it.fields ≡ own)) (sym is) (sym same))

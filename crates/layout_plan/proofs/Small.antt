@@ -22,14 +22,19 @@ use Rattle.c_types.specs.Views.{record_of, records_of, types_of_fields}
 use Rattle.c_typed.specs.RunCounts.Counting.{numbers_below}
 use Rattle.c_typed.specs.TypeNumbers.{type_at}
 use Rattle.affinity.specs.declared.fields.FieldWeights.{FieldWeights}
-use Rattle.affinity.specs.FieldWeights.{is_read_in}
+use Rattle.affinity.specs.declared.weights.Weights.{Weights}
+use Rattle.affinity.specs.FieldWeights.{field_weights, is_read_in}
+use Rattle.c_facts.specs.declared.fact.Fact.{Fact}
+use Rattle.c_typed.specs.Programs.{ProgramData}
+use Rattle.legality.specs.declared.violation.Violation.{Violation}
 use Rattle.layout_plan.specs.declared.outline.Outline.{Outline}
 use Rattle.layout_plan.specs.declared.plan.Decision.TheVariants.{Reordered, Split}
 use Rattle.layout_plan.specs.Order.{groups, is_with, joined, placed}
 use Rattle.layout_plan.specs.Outlines.{cold, in_order, is_worth, live, or_first, outline, peeled, planned, split, unless_too_big}
 use Rattle.layout_plan.specs.Parts.{is_too_big, part_layout, part_sizes}
 use Rattle.layout_plan.specs.PartSizes.{AreOwn, IsSmall, OutlinesAreSmall}
-use Rattle.layout_plan.specs.Peeling.{is_among}
+use Rattle.layout_plan.specs.Peeling.{is_among, is_peelable}
+use Rattle.layout_plan.specs.Plans.{outline_of}
 use Rattle.layout_plan.proofs.Ends.{end_from, greatest_positive}
 
 -- ---- alignments
@@ -214,15 +219,18 @@ module _ (records : List Record) (types : List CType) where
   one_small : (fields : List ℕ) → IsSmallPart fields → All (λ size. size ≤ greatest_size) ((part_layout records types [] fields).size ∷ [])
   one_small fields h = All-cons (λ size. size ≤ greatest_size) (part_layout records types [] fields).size [] h (All-nil (λ size. size ≤ greatest_size))
 
-  unless_small : (w : FieldWeights) (by_profile : Bool) (fields : List ℕ) (o : Outline) → IsSmallPart fields
+  unless_small : (w : FieldWeights) (by_profile : Bool) (fields : List ℕ) (o : Outline) → IsSmallPart fields → length o.parts ≤ 8
       → IsSmall records types (unless_too_big records types w by_profile fields o)
-  unless_small w by_profile fields o h = by (is_too_big records types o.decision o.parts) refl
+  unless_small w by_profile fields o h le = by (is_too_big records types o.decision o.parts) refl
     where
       by : (b : Bool) → is_too_big records types o.decision o.parts ≡ b → IsSmall records types (if b then outline Reordered (fields ∷ []) else o)
-      by true e = one_small fields h
-      by false e = none_greater greatest_size (part_sizes records types o.decision 0 o.parts)
-          (or_parts (nat_lt greatest_size (part_layout records types [] (flat_map (λ them. them) o.parts)).size)
-          (list_any (nat_lt greatest_size) (part_sizes records types o.decision 0 o.parts)) e).1
+      by true e = record { few = omega arith; sizes = one_small fields h }
+      by false e = record {
+        few = omega (arith, le);
+        sizes = none_greater greatest_size (part_sizes records types o.decision 0 o.parts)
+            (or_parts (nat_lt greatest_size (part_layout records types [] (flat_map (λ them. them) o.parts)).size)
+            (list_any (nat_lt greatest_size) (part_sizes records types o.decision 0 o.parts)) e).1;
+      }
 
 -- ---- how many parts there are
 
@@ -261,13 +269,6 @@ module _ (w : FieldWeights) where
     count_planned true fields = count_peeled (groups w fields) (count_groups fields [] (omega arith))
     count_planned false fields = count_split fields (cold records types w by_profile fields)
 
-    count_unless : (fields : List ℕ) (o : Outline) → length o.parts ≤ 8 → length (unless_too_big records types w by_profile fields o).parts ≤ 8
-    count_unless fields o le = by (is_too_big records types o.decision o.parts)
-      where
-        by : (b : Bool) → length (if b then outline Reordered (fields ∷ []) else o).parts ≤ 8
-        by true = omega arith
-        by false = le
-
 -- ---- the outlines of a record of a list
 
 module _ (stays : (records more : List Record) → LayoutsStay records more) (its_size : (records : List Record) (r : Record) → HasItsSize records r)
@@ -303,11 +304,10 @@ module _ (stays : (records more : List Record) → LayoutsStay records more) (it
 
   record_outlines_small : OutlinesAreSmall records types
   record_outlines_small = record {
-    refused = λ v. one_small records types (numbers_below (length types)) all_small;
+    refused = λ v. record { few = omega arith; sizes = one_small records types (numbers_below (length types)) all_small };
     others = λ w by_profile is_peelable. unless_small records types w by_profile (live w (length types))
-        (planned records types w by_profile is_peelable (live w (length types))) (live_small w);
-    few = λ w by_profile is_peelable. count_unless w records types by_profile (live w (length types))
-        (planned records types w by_profile is_peelable (live w (length types))) (count_planned w records types by_profile is_peelable (live w (length types)));
+        (planned records types w by_profile is_peelable (live w (length types))) (live_small w)
+        (count_planned w records types by_profile is_peelable (live w (length types)));
   }
 
 pub outlines_small : ((records more : List Record) → LayoutsStay records more) → ((records : List Record) (r : Record) → HasItsSize records r)
@@ -320,3 +320,10 @@ outlines_small stays its_size multiples records own (number, are) complete small
     by (Some r) e h =
         let there : slice_get (records_of records) number ≡ Some (record_of r) = slice_get-map record_of records number ∙ ap (option_map record_of) e in
         rw (sym h) (record_outlines_small stays its_size multiples (records_of records) complete small number (record_of r) there)
+
+-- for callers: so is what becomes of a record of a program
+pub outline_small : (p : ProgramData) (facts : List Fact) (w : Weights) (v : Option Violation) (number : ℕ) (types : List CType) (o : Outline)
+    → OutlinesAreSmall p.records types → o ≡ outline_of p facts w v number types → IsSmall p.records types o
+outline_small p facts w (Some v) number types o small is = rw is (small.refused v)
+outline_small p facts w None number types o small is =
+    rw is (small.others (field_weights w number (length types)) w.by_profile (is_peelable p facts number))

@@ -1,5 +1,5 @@
 -- What functions on parts ask, and what private ones answer.
-use Rattle.std.specs.Prelude.{◌≡◌, ℕ, ◌≤◌, Bool, IsSomeAnd, IsTrue, List, [], ◌∷◌, length, All, slice_get}
+use Rattle.std.specs.Prelude.{◌≡◌, ℕ, ◌≤◌, ◌^◌, Bool, IsSomeAnd, IsTrue, List, [], ◌∷◌, length, All, slice_get}
 use Rattle.c_types.specs.declared.record.Field.{Field}
 use Rattle.c_types.specs.declared.record.Record.{Record}
 use Rattle.c_types.specs.Layouts.{size_of}
@@ -29,13 +29,12 @@ abbrev pub front_of : List CType → Extent
 front_of [] = record { end = 0; alignment = 1 }
 front_of (t ∷ more) = record { end = 4; alignment = 4 }
 
--- each part is no larger than a record may be
-abbrev pub IsSmall : List Types.Record → List CType → Outline → Type 0
-IsSmall records types o = All (λ size. size ≤ greatest_size) (part_sizes records types o.decision 0 o.parts)
+-- there are few parts, each no larger than a record may be
+pub record IsSmall (records : List Types.Record) (types : List CType) (o : Outline) : Type 0 where
+  pub few : length o.parts ≤ 2 ^ 8
+  pub sizes : All (λ size. size ≤ greatest_size) (part_sizes records types o.decision 0 o.parts)
 
--- so are those of the outlines that there are of a record
+-- the outlines that there are of a record
 pub record OutlinesAreSmall (records : List Types.Record) (types : List CType) : Type 0 where
   pub refused : (v : Violation) → IsSmall records types (outline (Refused v) (numbers_below (length types) ∷ []))
   pub others : (w : FieldWeights) (by_profile is_peelable : Bool) → IsSmall records types (outlined records types w by_profile is_peelable)
-  -- there are few of them
-  pub few : (w : FieldWeights) (by_profile is_peelable : Bool) → length (outlined records types w by_profile is_peelable).parts ≤ 8

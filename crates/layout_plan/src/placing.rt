@@ -1,6 +1,6 @@
 //! Where the fields of a record lie by its outline.
 
-ghost use Rattle.std.specs.Prelude.{◌≡◌, ◌≤◌, ◌++◌, IfOk, OnOk, fold, length, map};
+ghost use Rattle.std.specs.Prelude.{◌≡◌, ◌≤◌, ◌++◌, IfOk, OnOk, fold, map};
 ghost use Rattle.c_types.specs.Layouts.{end_after, layouts, offsets_after};
 ghost use Rattle.c_types.specs.Limits.{greatest_size};
 ghost use Rattle.c_types.specs.Views.{records_of, types_of_fields};
@@ -79,7 +79,6 @@ pub fn record_plan(
     o: Outline,
 ) -> Result<RecordPlan, NoMemory>
     requires own { AreOwn records.now own.now }
-    requires few { length o.parts ≤ 256 }
     requires small { IsSmall (records_of records.now) (types_of_fields own.now) o }
     ensures { IfOk result (λ it. it ≡ record_plan (records_of records.now) (types_of_fields own.now) o) }
 {
