@@ -6,10 +6,10 @@ use Rattle.c_types.specs.Layouts.{size_of}
 use Rattle.c_typed.specs.declared.run_counts.order.Defined.{Defined}
 use Rattle.c_typed.specs.RunCounts.Order.{stands_before}
 use Rattle.affinity.specs.FieldWeights.{hotnesses}
-use Rattle.layout_plan.specs.declared.plan.Decision.{Decision}
-use Rattle.layout_plan.specs.declared.plan.Decision.TheVariants.{Refused}
-use Rattle.layout_plan.specs.declared.plan.Planned.{Planned}
-use Rattle.layout_plan.specs.declared.plan.RecordPlan.{RecordPlan}
+use Rattle.layout_plan.specs.declared.plans.Decision.{Decision}
+use Rattle.layout_plan.specs.declared.plans.Decision.TheVariants.{Refused}
+use Rattle.layout_plan.specs.declared.plans.Planned.{Planned}
+use Rattle.layout_plan.specs.declared.plans.RecordPlan.{RecordPlan}
 use Rattle.lay_report.specs.Texts.{decision_text, field_lines, first_line, part_lines, record_line}
 
 -- ---- the order of records

@@ -4,9 +4,9 @@ use Rattle.std.specs.List.{concat}
 use Rattle.c_types.specs.Types.{Field}
 use Rattle.legality.specs.declared.violation.Test.{Test}
 use Rattle.legality.specs.declared.violation.Test.TheVariants.{Cstt, Cstf, Atkn, Libc, Ind, Mset, Nest, Size, Objt, Copy}
-use Rattle.layout_plan.specs.declared.plan.Decision.{Decision}
-use Rattle.layout_plan.specs.declared.plan.Decision.TheVariants.{Refused, Reordered, Split, Peeled}
-use Rattle.layout_plan.specs.declared.plan.PartField.{PartField}
+use Rattle.layout_plan.specs.declared.plans.Decision.{Decision}
+use Rattle.layout_plan.specs.declared.plans.Decision.TheVariants.{Refused, Reordered, Split, Peeled}
+use Rattle.layout_plan.specs.declared.plans.PartField.{PartField}
 
 abbrev pub test_name : Test → List ℕ
 test_name Cstt = codes "CSTT"

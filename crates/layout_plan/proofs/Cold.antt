@@ -6,7 +6,7 @@ use Rattle.c_types.specs.Types.{CType, Record}
 use Rattle.affinity.specs.declared.fields.FieldWeights.{FieldWeights}
 use Rattle.affinity.specs.FieldWeights.{hotness_in}
 use Rattle.layout_plan.specs.declared.outline.Outline.{Outline}
-use Rattle.layout_plan.specs.declared.plan.Decision.TheVariants.{Reordered, Split}
+use Rattle.layout_plan.specs.declared.plans.Decision.TheVariants.{Reordered, Split}
 use Rattle.layout_plan.specs.Order.{groups, placed}
 use Rattle.layout_plan.specs.Outlines.{cold, greatest_hotness, is_cold, is_worth, outline, peeled, planned, split}
 use Rattle.layout_plan.specs.Peeling.{is_among}

@@ -15,7 +15,7 @@ use Rattle.c_types.specs.Types as T
 use Rattle.c_types.specs.Types.{CType, Record, void, integer, pointer, array, function, structure, field_types}
 use Rattle.c_types.specs.Views.{field_of, record_of, records_of, types_of_fields, type_of}
 use Rattle.c_typed.specs.TypeNumbers.{type_at}
-use Rattle.layout_plan.specs.Sides.{AreFieldsOf}
+use Rattle.layout_plan.specs.PartSizes.{AreFieldsOf}
 
 abbrev pub sizes : List Record → List CType → (sum : ℕ) → List ℕ → ℕ
 sizes records types sum fields = fold (λ sum f. sum + size_of records (type_at types f)) sum fields

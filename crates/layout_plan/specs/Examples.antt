@@ -16,10 +16,10 @@ use Rattle.affinity.specs.declared.weights.Weights.{Weights}
 use Rattle.affinity.specs.Accesses.{accesses_in}
 use Rattle.affinity.specs.GroupWeights.{weights}
 use Rattle.affinity.specs.Weighing.{is_given}
-use Rattle.layout_plan.specs.declared.plan.Decision.{Decision}
-use Rattle.layout_plan.specs.declared.plan.Decision.TheVariants.{Refused, Reordered, Split, Peeled}
-use Rattle.layout_plan.specs.declared.plan.PartField.{PartField}
-use Rattle.layout_plan.specs.declared.plan.RecordPlan.{RecordPlan}
+use Rattle.layout_plan.specs.declared.plans.Decision.{Decision}
+use Rattle.layout_plan.specs.declared.plans.Decision.TheVariants.{Refused, Reordered, Split, Peeled}
+use Rattle.layout_plan.specs.declared.plans.PartField.{PartField}
+use Rattle.layout_plan.specs.declared.plans.RecordPlan.{RecordPlan}
 use Rattle.layout_plan.specs.Plans.{plan_of}
 
 abbrev start : Place

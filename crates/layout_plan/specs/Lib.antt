@@ -5,6 +5,7 @@ pub mod Joining
 pub mod Outlines
 pub mod Sides
 pub mod Parts
+pub mod PartSizes
 pub mod Plans
 pub mod Planning
 mod Examples

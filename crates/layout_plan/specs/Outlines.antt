@@ -7,8 +7,8 @@ use Rattle.c_typed.specs.RunCounts.Counting.{numbers_below}
 use Rattle.affinity.specs.declared.fields.FieldWeights.{FieldWeights}
 use Rattle.affinity.specs.FieldWeights.{hotness_in, is_read_in}
 use Rattle.layout_plan.specs.declared.outline.Outline.{Outline}
-use Rattle.layout_plan.specs.declared.plan.Decision.{Decision}
-use Rattle.layout_plan.specs.declared.plan.Decision.TheVariants.{Reordered, Split, Peeled}
+use Rattle.layout_plan.specs.declared.plans.Decision.{Decision}
+use Rattle.layout_plan.specs.declared.plans.Decision.TheVariants.{Reordered, Split, Peeled}
 use Rattle.layout_plan.specs.Order.{groups, placed}
 use Rattle.layout_plan.specs.Parts.{is_too_big}
 use Rattle.layout_plan.specs.Peeling.{is_among}

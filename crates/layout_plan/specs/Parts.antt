@@ -6,9 +6,9 @@ use Rattle.c_types.specs.declared.layout.Layout.{Layout}
 use Rattle.c_types.specs.Layouts.{layout, layouts}
 use Rattle.c_types.specs.Limits.{greatest_size}
 use Rattle.c_typed.specs.TypeNumbers.{type_at}
-use Rattle.layout_plan.specs.declared.plan.Decision.{Decision}
-use Rattle.layout_plan.specs.declared.plan.Decision.TheVariants.{Split}
-use Rattle.layout_plan.specs.declared.plan.PartField.{PartField}
+use Rattle.layout_plan.specs.declared.plans.Decision.{Decision}
+use Rattle.layout_plan.specs.declared.plans.Decision.TheVariants.{Split}
+use Rattle.layout_plan.specs.declared.plans.PartField.{PartField}
 use Rattle.layout_plan.specs.declared.parts.Placed.{Placed}
 
 abbrev pub placed_at : (field part offset : ℕ) → Placed
@@ -28,7 +28,7 @@ module _ (records : List Record) (types : List CType) where
   part_sizes decision part [] = []
   part_sizes decision part (fields ∷ more) = (part_layout (link decision part) fields).size ∷ part_sizes decision (part + 1) more
 
-  -- each part, and one record that holds the fields of all parts, is no larger than a record may be
+  -- a part, or one record that holds the fields of all parts, is larger than a record may be
   abbrev pub is_too_big : Decision → List (List ℕ) → Bool
   is_too_big decision parts = list_any (nat_lt greatest_size) ((part_layout [] (flat_map (λ fields. fields) parts)).size ∷ part_sizes decision 0 parts)
 

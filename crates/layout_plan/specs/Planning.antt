@@ -8,7 +8,7 @@ use Rattle.legality.specs.declared.violation.Violation.{Violation}
 use Rattle.legality.specs.Breaches.{breaches}
 use Rattle.legality.specs.Verdicts.{AreVerdicts}
 use Rattle.affinity.specs.Weighing.{Weighs}
-use Rattle.layout_plan.specs.declared.plan.Planned.{Planned}
+use Rattle.layout_plan.specs.declared.plans.Planned.{Planned}
 use Rattle.layout_plan.specs.Plans.{plan_of}
 
 -- the plan of a program by the first violations of its records and by its weights, which a profile gave or, where there is none, the depths of loops

@@ -8,8 +8,8 @@ use Rattle.legality.specs.declared.violation.Violation.{Violation}
 use Rattle.legality.specs.Verdicts.{verdict_of}
 use Rattle.affinity.specs.declared.weights.Weights.{Weights}
 use Rattle.affinity.specs.FieldWeights.{field_weights}
-use Rattle.layout_plan.specs.declared.plan.Decision.TheVariants.{Refused}
-use Rattle.layout_plan.specs.declared.plan.RecordPlan.{RecordPlan}
+use Rattle.layout_plan.specs.declared.plans.Decision.TheVariants.{Refused}
+use Rattle.layout_plan.specs.declared.plans.RecordPlan.{RecordPlan}
 use Rattle.layout_plan.specs.declared.outline.Outline.{Outline}
 use Rattle.layout_plan.specs.Outlines.{outline, outlined}
 use Rattle.layout_plan.specs.Parts.{part_sizes, place_in, placed_in_parts}
@@ -24,13 +24,14 @@ record_plan records types o = record {
 }
 
 -- a record that violates a test keeps the layout that is declared
-abbrev pub outline_of : ProgramData → List Fact → Weights → Option Violation → (number : ℕ) → (types : List CType) → Outline
-outline_of p facts w (Some v) number types = outline (Refused v) (numbers_below (length types) ∷ [])
-outline_of p facts w None number types = outlined p.records types (field_weights w number (length types)) w.by_profile (is_peelable p facts number)
+abbrev pub outline_of : List Record → Weights → (is_peelable : Bool) → Option Violation → (number : ℕ) → (types : List CType) → Outline
+outline_of records w is_peelable (Some v) number types = outline (Refused v) (numbers_below (length types) ∷ [])
+outline_of records w is_peelable None number types = outlined records types (field_weights w number (length types)) w.by_profile is_peelable
 
 abbrev pub plan_of_record : ProgramData → List Fact → (verdicts : List (Option Violation)) → Weights → (number : ℕ) → Record → RecordPlan
 plan_of_record p facts verdicts w number r =
-    record_plan p.records (field_types r) (outline_of p facts w (verdict_of verdicts number) number (field_types r))
+    record_plan p.records (field_types r)
+    (outline_of p.records w (is_peelable p facts number) (verdict_of verdicts number) number (field_types r))
 
 -- from the record of a number on
 abbrev pub plans_from : ProgramData → List Fact → (verdicts : List (Option Violation)) → Weights → (number : ℕ) → List Record → List RecordPlan

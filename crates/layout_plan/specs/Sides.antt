@@ -1,11 +1,11 @@
--- The fields of a record on both sides of a bound on hotness, and whose fields some are.
+-- The fields of a record on both sides of a bound on hotness.
 use Rattle.std.specs.Prelude.{◌≡◌, ℕ, ◌+◌, ◌*◌, ◌/◌, nat_lt, Bool, true, false, not, IsSomeAnd, List, ◌∷◌, filter, slice_get}
 use Rattle.c_types.specs.declared.record.Field.{Field}
 use Rattle.c_types.specs.declared.record.Record.{Record}
 use Rattle.affinity.specs.declared.fields.FieldWeights.{FieldWeights}
 use Rattle.affinity.specs.FieldWeights.{hotness_in}
-use Rattle.layout_plan.specs.declared.plan.Decision.{Decision}
-use Rattle.layout_plan.specs.declared.plan.Decision.TheVariants.{Reordered, Peeled}
+use Rattle.layout_plan.specs.declared.plans.Decision.{Decision}
+use Rattle.layout_plan.specs.declared.plans.Decision.TheVariants.{Reordered, Peeled}
 
 -- hotness below this is less than so many thousandths of the greatest
 abbrev pub cold_below : (by_profile : Bool) → (greatest : ℕ) → ℕ
@@ -22,7 +22,3 @@ warm_fields w below fields = filter (λ f. not (nat_lt (hotness_in w f) below)) 
 abbrev pub decision_of : (groups : List (List ℕ)) → Decision
 decision_of (one ∷ other ∷ more) = Peeled
 decision_of few = Reordered
-
--- they are the fields of one of these records
-abbrev pub AreFieldsOf : List Record → List Field → Type 0
-AreFieldsOf records own = (number : ℕ) × IsSomeAnd (slice_get records number) (λ r. r.fields ≡ own)

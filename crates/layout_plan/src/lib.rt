@@ -6,6 +6,9 @@ mod outline;
 mod outlining;
 mod parts;
 mod peeling;
-mod plan;
+mod placing;
+mod plans;
+mod planning;
 
-pub use plan::{Decision, PartField, Plan, RecordPlan};
+pub use plans::{Decision, PartField, Plan, Planned, RecordPlan};
+pub use planning::{plan, planned};

@@ -7,14 +7,15 @@ ghost use Rattle.c_types.specs.Views.{records_of, types_of_fields};
 ghost use Rattle.c_typed.specs.RunCounts.Counting.{numbers_below};
 ghost use Rattle.c_typed.specs.TypeNumbers.{type_at};
 ghost use Rattle.affinity.specs.FieldWeights.{hotness_in, is_read_in};
-ghost use Rattle.layout_plan.specs.declared.plan.Decision.TheVariants.{Reordered, Split};
+ghost use Rattle.layout_plan.specs.declared.plans.Decision.TheVariants.{Reordered, Split};
 ghost use Rattle.layout_plan.specs.Order.{placed};
 ghost use Rattle.layout_plan.specs.Outlines.{is_worth, live, outline, planned, total_size};
-ghost use Rattle.layout_plan.specs.Sides.{AreFieldsOf, cold_below, cold_fields, decision_of, warm_fields};
+ghost use Rattle.layout_plan.specs.PartSizes.{AreFieldsOf};
+ghost use Rattle.layout_plan.specs.Sides.{cold_below, cold_fields, decision_of, warm_fields};
 
 use crate::order::{groups, placed};
 use crate::outline::Outline;
-use crate::plan::Decision;
+use crate::plans::Decision;
 use affinity::FieldWeights;
 use c_types::{Field, Records, checked_size_of, records_are_complete};
 use lay_base::{List, NoMemory, add};
