@@ -96,3 +96,8 @@ pub passed_alone : (records : List Record) (types : List CType) (sum : ℕ) (all
     → None ≡ size_if_small (size_of records (type_at types (get_or all i 0))) → 4 < sizes records types sum (drop i all)
 passed_alone records types sum all i h k =
     passed records types sum all i h (omega (arith, large (size_of records (type_at types (get_or all i 0))) k))
+
+-- what a caller has of the record with that number
+pub are_fields : (records : List Records.Record) (own : List Field.Field) (number : ℕ) (r : Records.Record) → slice_get records number ≡ Some r
+    → own ≡ r.fields → AreFieldsOf records own
+are_fields records own number r e same = (number, subst (λ found. IsSomeAnd found (λ r. r.fields ≡ own)) (sym e) (sym same))

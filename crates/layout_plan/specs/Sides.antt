@@ -12,11 +12,12 @@ abbrev pub cold_below : (by_profile : Bool) → (greatest : ℕ) → ℕ
 cold_below true greatest = (30 * greatest + 999) / 1000
 cold_below false greatest = (75 * greatest + 999) / 1000
 
-abbrev pub cold_fields : FieldWeights → (below : ℕ) → List ℕ → List ℕ
-cold_fields w below fields = filter (λ f. nat_lt (hotness_in w f) below) fields
+abbrev pub is_on : FieldWeights → (below : ℕ) → (is_cold : Bool) → (field : ℕ) → Bool
+is_on w below true f = nat_lt (hotness_in w f) below
+is_on w below false f = not (nat_lt (hotness_in w f) below)
 
-abbrev pub warm_fields : FieldWeights → (below : ℕ) → List ℕ → List ℕ
-warm_fields w below fields = filter (λ f. not (nat_lt (hotness_in w f) below)) fields
+abbrev pub side : FieldWeights → (below : ℕ) → (is_cold : Bool) → List ℕ → List ℕ
+side w below is_cold fields = filter (is_on w below is_cold) fields
 
 -- of a record that may be peeled
 abbrev pub decision_of : (groups : List (List ℕ)) → Decision

@@ -9,8 +9,8 @@ ghost use Rattle.c_typed.specs.TypeNumbers.{type_at};
 ghost use Rattle.affinity.specs.FieldWeights.{hotness_in, is_read_in};
 ghost use Rattle.layout_plan.specs.declared.plan.Decision.TheVariants.{Reordered, Split};
 ghost use Rattle.layout_plan.specs.Order.{placed};
-ghost use Rattle.layout_plan.specs.Outlines.{is_worth, live, outline, planned, total_size};
-ghost use Rattle.layout_plan.specs.Sides.{AreFieldsOf, cold_below, cold_fields, decision_of, warm_fields};
+ghost use Rattle.layout_plan.specs.Outlines.{live, outline, planned};
+ghost use Rattle.layout_plan.specs.Sides.{AreFieldsOf, cold_below, decision_of, side};
 
 use crate::order::{groups, placed};
 use crate::outline::Outline;
@@ -103,34 +103,19 @@ fn cold_below(by_profile: bool, greatest: u128) -> u128
     }
 }
 
-fn cold_fields(
+/// The fields on one side of a bound on hotness.
+fn side(
     alloc: Global,
     w: &FieldWeights,
     below: u128,
+    is_cold: bool,
     fields: &[u32],
 ) -> Result<List<u32>, NoMemory>
-    ensures { IfOk result (λ r. r ≡ cold_fields w.now below fields.now) }
+    ensures { IfOk result (λ r. r ≡ side w.now below is_cold fields.now) }
 {
     let mut all = List::new(alloc);
     for f in fields {
-        if w.hotness(*f) < below {
-            add(&mut all, *f)?;
-        }
-    }
-    Ok(all)
-}
-
-fn warm_fields(
-    alloc: Global,
-    w: &FieldWeights,
-    below: u128,
-    fields: &[u32],
-) -> Result<List<u32>, NoMemory>
-    ensures { IfOk result (λ r. r ≡ warm_fields w.now below fields.now) }
-{
-    let mut all = List::new(alloc);
-    for f in fields {
-        if w.hotness(*f) >= below {
+        if (w.hotness(*f) < below) == is_cold {
             add(&mut all, *f)?;
         }
     }
@@ -196,10 +181,10 @@ fn in_two(
     fields: &[u32],
     apart: List<u32>,
 ) -> Result<Outline, NoMemory>
-    ensures { IfOk result (λ o. o ≡ outline Split (placed w.now (warm_fields w.now below fields.now) ∷ placed w.now apart ∷ [])) }
+    ensures { IfOk result (λ o. o ≡ outline Split (placed w.now (side w.now below false fields.now) ∷ placed w.now apart ∷ [])) }
 {
     let mut parts = List::new(alloc);
-    let warm = warm_fields(alloc, w, below, fields)?;
+    let warm = side(alloc, w, below, false, fields)?;
     add_placed(alloc, w, &mut parts, warm)?;
     add_placed(alloc, w, &mut parts, apart)?;
     Ok(Outline {
@@ -221,7 +206,7 @@ fn split(
     ensures { IfOk result (λ o. o ≡ planned (records_of records.now) (types_of_fields own.now) w.now by_profile false fields.now) }
 {
     let below = cold_below(by_profile, greatest_hotness(w, fields));
-    let apart = cold_fields(alloc, w, below, fields)?;
+    let apart = side(alloc, w, below, true, fields)?;
     if is_worth(records, own, apart.as_slice()) {
         in_two(alloc, w, below, fields, apart)
     } else {

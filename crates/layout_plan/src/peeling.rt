@@ -1,6 +1,6 @@
 //! Which records may be peeled: each starts with a mark, and one pass over a program clears those of the records that it holds back.
 
-ghost use Rattle.std.specs.Prelude.{◌≡◌, ◌<◌, ◌++◌, ◌∷◌, [], IfOk, Some, flat_map, fold, length, map, replicate, slice_get, true, ℕ};
+ghost use Rattle.std.specs.Prelude.{◌≡◌, ◌<◌, IfOk, Some, flat_map, fold, length, map, replicate, slice_get, true, ℕ};
 ghost use Rattle.std.specs.Option.{option_copied};
 ghost use Rattle.c_types.specs.Views.{record_of, records_of, type_of, types_of};
 ghost use Rattle.c_typed.specs.Programs.{data_of, program_data};
