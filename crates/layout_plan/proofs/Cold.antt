@@ -1,5 +1,5 @@
 -- The fields that are cold.
-use Rattle.std.proofs.Common.{◌≡◌, ℕ, ◌+◌, ◌*◌, ◌/◌, ◌==◌, ◌||◌, not, Bool, true, false, List, [], ◌∷◌, refl, ap, ◌∙◌, arith, map, sym}
+use Rattle.std.proofs.Common.{◌≡◌, ℕ, ◌+◌, ◌*◌, ◌/◌, ◌==◌, ◌||◌, not, Bool, true, false, List, [], ◌∷◌, refl, ap, ◌∙◌, arith, sym}
 use Rattle.std.specs.Prelude.{cond, filter, if◌then◌else◌, nat_lt, ◌&&◌}
 use Rattle.std.proofs.lemmas.Bool.{eq-eqb, eqb-true, ltb-true, ltb-false, or_right, and_right}
 use Rattle.c_types.specs.Types.{CType, Record}
@@ -7,10 +7,10 @@ use Rattle.affinity.specs.declared.fields.FieldWeights.{FieldWeights}
 use Rattle.affinity.specs.FieldWeights.{hotness_in}
 use Rattle.layout_plan.specs.declared.outline.Outline.{Outline}
 use Rattle.layout_plan.specs.declared.plan.Decision.TheVariants.{Reordered, Split}
-use Rattle.layout_plan.specs.Order.{groups, placed}
-use Rattle.layout_plan.specs.Outlines.{cold, greatest_hotness, is_cold, is_worth, outline, peeled, planned, split}
+use Rattle.layout_plan.specs.Order.{placed}
+use Rattle.layout_plan.specs.Outlines.{cold, greatest_hotness, is_worth, outline, planned, split}
 use Rattle.layout_plan.specs.Peeling.{is_among}
-use Rattle.layout_plan.specs.Sides.{cold_below, decision_of, side}
+use Rattle.layout_plan.specs.Sides.{cold_below, side}
 
 -- ---- filters
 
@@ -54,10 +54,8 @@ below h x = go (nat_lt (1000 * h) x) refl (nat_lt h ((x + 999) / 1000)) refl
 module _ (records : List Record) (types : List CType) (w : FieldWeights) where
   cold_same : (by_profile : Bool) (fields : List ℕ) → cold records types w by_profile fields
       ≡ side w (cold_below by_profile (greatest_hotness records types w by_profile fields)) true fields
-  cold_same true fields = filter_same (is_cold records types w true fields) (λ f. nat_lt (hotness_in w f) (cold_below true (greatest_hotness records types w true fields)))
-      (λ f. below (hotness_in w f) (30 * greatest_hotness records types w true fields)) fields
-  cold_same false fields = filter_same (is_cold records types w false fields) (λ f. nat_lt (hotness_in w f) (cold_below false (greatest_hotness records types w false fields)))
-      (λ f. below (hotness_in w f) (75 * greatest_hotness records types w false fields)) fields
+  cold_same true fields = filter_same _ _ (λ f. below (hotness_in w f) (30 * greatest_hotness records types w true fields)) fields
+  cold_same false fields = filter_same _ _ (λ f. below (hotness_in w f) (75 * greatest_hotness records types w false fields)) fields
 
   abbrev by_worth : (bound : ℕ) (fields : List ℕ) → (worth : Bool) → Outline
   by_worth bound fields worth = if worth
@@ -73,7 +71,8 @@ module _ (records : List Record) (types : List CType) (w : FieldWeights) where
       else outline Reordered (placed w fields ∷ []))
       (apart (λ f. nat_lt (hotness_in w f) bound) fields fields (λ f h. h))
 
-  split_by : (by_profile : Bool) (fields : List ℕ) (bound : ℕ) (worth : Bool) → bound ≡ cold_below by_profile (greatest_hotness records types w by_profile fields)
+  split_by : (by_profile : Bool) (fields : List ℕ) (bound : ℕ) (worth : Bool)
+      → bound ≡ cold_below by_profile (greatest_hotness records types w by_profile fields)
       → worth ≡ is_worth records types w by_profile (side w bound true fields) → by_worth bound fields worth ≡ planned records types w by_profile false fields
   split_by by_profile fields bound worth e k = ap (by_worth bound fields) k ∙ sym (split_is by_profile fields bound e)
 
@@ -87,11 +86,3 @@ module _ (records : List Record) (types : List CType) (w : FieldWeights) where
       → apart ≡ side w bound true fields → false ≡ is_worth records types w by_profile apart
       → outline Reordered (placed w fields ∷ []) ≡ planned records types w by_profile false fields
   one by_profile fields apart bound e same worth = split_by by_profile fields bound false e (worth ∙ ap (is_worth records types w by_profile) same)
-
-  pub by_groups : (by_profile : Bool) (fields : List ℕ) → planned records types w by_profile true fields ≡ outline (decision_of (groups w fields)) (map (placed w) (groups w fields))
-  by_groups by_profile fields = go (groups w fields)
-    where
-      go : (all : List (List ℕ)) → peeled records types w by_profile all ≡ outline (decision_of all) (map (placed w) all)
-      go [] = refl
-      go (one ∷ []) = refl
-      go (one ∷ other ∷ more) = refl

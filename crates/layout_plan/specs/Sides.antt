@@ -1,7 +1,11 @@
--- The fields of a record on both sides of a bound on hotness, and whose fields some are.
-use Rattle.std.specs.Prelude.{◌≡◌, ℕ, ◌+◌, ◌*◌, ◌/◌, nat_lt, Bool, true, false, not, IsSomeAnd, List, ◌∷◌, filter, slice_get}
+-- What becomes of a record, as its functions answer it: both sides of a bound on hotness, sums of sizes, and whose fields some are.
+use Rattle.std.specs.Prelude.{◌≡◌, ℕ, ◌+◌, ◌*◌, ◌/◌, nat_lt, Bool, true, false, not, IsSomeAnd, List, ◌∷◌, filter, fold, slice_get}
 use Rattle.c_types.specs.declared.record.Field.{Field}
 use Rattle.c_types.specs.declared.record.Record.{Record}
+use Rattle.c_types.specs.Layouts.{size_of}
+use Rattle.c_types.specs.Types as T
+use Rattle.c_types.specs.Types.{CType}
+use Rattle.c_typed.specs.TypeNumbers.{type_at}
 use Rattle.affinity.specs.declared.fields.FieldWeights.{FieldWeights}
 use Rattle.affinity.specs.FieldWeights.{hotness_in}
 use Rattle.layout_plan.specs.declared.plan.Decision.{Decision}
@@ -23,6 +27,9 @@ side w below is_cold fields = filter (is_on w below is_cold) fields
 abbrev pub decision_of : (groups : List (List ℕ)) → Decision
 decision_of (one ∷ other ∷ more) = Peeled
 decision_of few = Reordered
+
+abbrev pub sizes : List T.Record → List CType → (sum : ℕ) → List ℕ → ℕ
+sizes records types sum fields = fold (λ sum f. sum + size_of records (type_at types f)) sum fields
 
 -- they are the fields of one of these records
 abbrev pub AreFieldsOf : List Record → List Field → Type 0

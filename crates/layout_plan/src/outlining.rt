@@ -1,6 +1,6 @@
 //! What becomes of a record that violates no test.
 
-ghost use Rattle.std.specs.Prelude.{◌≡◌, ◌+◌, ◌&&◌, ◌++◌, false, ◌∷◌, [], IfOk, OnOk, filter, fold, length, map, max, nat_le, nat_lt};
+ghost use Rattle.std.specs.Prelude.{◌≡◌, ◌&&◌, ◌++◌, false, ◌∷◌, [], IfOk, OnOk, filter, fold, length, map, max, nat_le, nat_lt};
 ghost use Rattle.c_types.specs.Layouts.{size_of};
 ghost use Rattle.c_types.specs.Limits.{size_if_small};
 ghost use Rattle.c_types.specs.Views.{records_of, types_of_fields};
@@ -10,7 +10,7 @@ ghost use Rattle.affinity.specs.FieldWeights.{hotness_in, is_read_in};
 ghost use Rattle.layout_plan.specs.declared.plan.Decision.TheVariants.{Reordered, Split};
 ghost use Rattle.layout_plan.specs.Order.{placed};
 ghost use Rattle.layout_plan.specs.Outlines.{live, outline, planned};
-ghost use Rattle.layout_plan.specs.Sides.{AreFieldsOf, cold_below, decision_of, side};
+ghost use Rattle.layout_plan.specs.Sides.{AreFieldsOf, cold_below, decision_of, side, sizes};
 
 use crate::order::{groups, placed};
 use crate::outline::Outline;
@@ -137,7 +137,7 @@ fn size_at(records: &Records, own: &[Field], f: u32) -> Option<u32>
 /// Whether fields take more than a link does, which has 4 bytes.
 fn is_larger_than_link(records: &Records, own: &[Field], fields: &[u32]) -> bool
     requires { AreFieldsOf records.now own.now }
-    ensures { result ≡ nat_lt 4 (fold (λ sum f. sum + size_of (records_of records.now) (type_at (types_of_fields own.now) f)) 0 fields.now) }
+    ensures { result ≡ nat_lt 4 (sizes (records_of records.now) (types_of_fields own.now) 0 fields.now) }
 {
     let mut sum: u32 = 0;
     for f in fields {
@@ -154,7 +154,7 @@ fn is_larger_than_link(records: &Records, own: &[Field], fields: &[u32]) -> bool
 
 fn is_worth(records: &Records, own: &[Field], apart: &[u32]) -> bool
     requires { AreFieldsOf records.now own.now }
-    ensures { result ≡ (nat_le 2 (length apart.now) && nat_lt 4 (fold (λ sum f. sum + size_of (records_of records.now) (type_at (types_of_fields own.now) f)) 0 apart.now)) }
+    ensures { result ≡ (nat_le 2 (length apart.now) && nat_lt 4 (sizes (records_of records.now) (types_of_fields own.now) 0 apart.now)) }
 {
     apart.len() >= 2 && is_larger_than_link(records, own, apart)
 }
@@ -193,7 +193,7 @@ fn in_two(
     })
 }
 
-/// Of a record that may not be peeled, whose fields that are not cold have at least so much hotness.
+/// Of a record that may not be peeled.
 fn split(
     alloc: Global,
     records: &Records,

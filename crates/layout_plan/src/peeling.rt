@@ -219,7 +219,7 @@ fn left(alloc: Global, p: &Typed, facts: &[Fact]) -> Result<List<bool>, NoMemory
 #[tactic(auto, using(crate::proofs::Left::counted, crate::proofs::Left::peelable))]
 pub fn peelable(alloc: Global, p: &Typed, facts: &[Fact]) -> Result<List<bool>, NoMemory>
     ensures counted { IfOk result (λ all. length all ≡ length p.now.records) }
-    ensures each { IfOk result (λ all. (number : ℕ) → number < length p.now.records → slice_get all number ≡ Some (is_peelable (program_data p.now) facts.now number)) }
+    ensures each { IfOk result (λ all. (r : ℕ) → r < length p.now.records → slice_get all r ≡ Some (is_peelable (program_data p.now) facts.now r)) }
 {
     left(alloc, p, facts)
 }
