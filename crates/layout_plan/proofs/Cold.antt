@@ -1,5 +1,5 @@
 -- The fields that are cold.
-use Rattle.std.proofs.Common.{◌≡◌, ℕ, ◌+◌, ◌*◌, ◌/◌, ◌==◌, ◌||◌, not, Bool, true, false, List, [], ◌∷◌, refl, ap, ◌∙◌, arith, map, sym}
+use Rattle.std.proofs.Common.{◌≡◌, ℕ, ◌+◌, ◌*◌, ◌/◌, ◌==◌, ◌||◌, not, Bool, true, false, List, [], ◌∷◌, refl, ap, ◌∙◌, arith, sym}
 use Rattle.std.specs.Prelude.{cond, filter, if◌then◌else◌, nat_lt, ◌&&◌}
 use Rattle.std.proofs.lemmas.Bool.{eq-eqb, eqb-true, ltb-true, ltb-false, or_right, and_right}
 use Rattle.c_types.specs.Types.{CType, Record}
@@ -7,10 +7,10 @@ use Rattle.affinity.specs.declared.fields.FieldWeights.{FieldWeights}
 use Rattle.affinity.specs.FieldWeights.{hotness_in}
 use Rattle.layout_plan.specs.declared.outline.Outline.{Outline}
 use Rattle.layout_plan.specs.declared.plans.Decision.TheVariants.{Reordered, Split}
-use Rattle.layout_plan.specs.Order.{groups, placed}
-use Rattle.layout_plan.specs.Outlines.{cold, greatest_hotness, is_cold, is_worth, outline, peeled, planned, split}
+use Rattle.layout_plan.specs.Order.{placed}
+use Rattle.layout_plan.specs.Outlines.{cold, greatest_hotness, is_worth, outline, planned, split}
 use Rattle.layout_plan.specs.Peeling.{is_among}
-use Rattle.layout_plan.specs.Sides.{cold_below, cold_fields, decision_of, warm_fields}
+use Rattle.layout_plan.specs.Sides.{cold_below, side}
 
 -- ---- filters
 
@@ -53,45 +53,36 @@ below h x = go (nat_lt (1000 * h) x) refl (nat_lt h ((x + 999) / 1000)) refl
 
 module _ (records : List Record) (types : List CType) (w : FieldWeights) where
   cold_same : (by_profile : Bool) (fields : List ℕ) → cold records types w by_profile fields
-      ≡ cold_fields w (cold_below by_profile (greatest_hotness records types w by_profile fields)) fields
-  cold_same true fields = filter_same (is_cold records types w true fields) (λ f. nat_lt (hotness_in w f) (cold_below true (greatest_hotness records types w true fields)))
-      (λ f. below (hotness_in w f) (30 * greatest_hotness records types w true fields)) fields
-  cold_same false fields = filter_same (is_cold records types w false fields) (λ f. nat_lt (hotness_in w f) (cold_below false (greatest_hotness records types w false fields)))
-      (λ f. below (hotness_in w f) (75 * greatest_hotness records types w false fields)) fields
+      ≡ side w (cold_below by_profile (greatest_hotness records types w by_profile fields)) true fields
+  cold_same true fields = filter_same _ _ (λ f. below (hotness_in w f) (30 * greatest_hotness records types w true fields)) fields
+  cold_same false fields = filter_same _ _ (λ f. below (hotness_in w f) (75 * greatest_hotness records types w false fields)) fields
 
   abbrev by_worth : (bound : ℕ) (fields : List ℕ) → (worth : Bool) → Outline
   by_worth bound fields worth = if worth
-      then outline Split (placed w (warm_fields w bound fields) ∷ placed w (cold_fields w bound fields) ∷ [])
+      then outline Split (placed w (side w bound false fields) ∷ placed w (side w bound true fields) ∷ [])
       else outline Reordered (placed w fields ∷ [])
 
   split_is : (by_profile : Bool) (fields : List ℕ) (bound : ℕ) → bound ≡ cold_below by_profile (greatest_hotness records types w by_profile fields)
-      → planned records types w by_profile false fields ≡ by_worth bound fields (is_worth records types w by_profile (cold_fields w bound fields))
+      → planned records types w by_profile false fields ≡ by_worth bound fields (is_worth records types w by_profile (side w bound true fields))
   split_is by_profile fields bound e =
-      ap (split records types w by_profile fields) (cold_same by_profile fields ∙ ap (λ n. cold_fields w n fields) (sym e))
-      ∙ ap (λ warm. if is_worth records types w by_profile (cold_fields w bound fields)
-      then outline Split (placed w warm ∷ placed w (cold_fields w bound fields) ∷ [])
+      ap (split records types w by_profile fields) (cold_same by_profile fields ∙ ap (λ n. side w n true fields) (sym e))
+      ∙ ap (λ warm. if is_worth records types w by_profile (side w bound true fields)
+      then outline Split (placed w warm ∷ placed w (side w bound true fields) ∷ [])
       else outline Reordered (placed w fields ∷ []))
       (apart (λ f. nat_lt (hotness_in w f) bound) fields fields (λ f h. h))
 
-  split_by : (by_profile : Bool) (fields : List ℕ) (bound : ℕ) (worth : Bool) → bound ≡ cold_below by_profile (greatest_hotness records types w by_profile fields)
-      → worth ≡ is_worth records types w by_profile (cold_fields w bound fields) → by_worth bound fields worth ≡ planned records types w by_profile false fields
+  split_by : (by_profile : Bool) (fields : List ℕ) (bound : ℕ) (worth : Bool)
+      → bound ≡ cold_below by_profile (greatest_hotness records types w by_profile fields)
+      → worth ≡ is_worth records types w by_profile (side w bound true fields) → by_worth bound fields worth ≡ planned records types w by_profile false fields
   split_by by_profile fields bound worth e k = ap (by_worth bound fields) k ∙ sym (split_is by_profile fields bound e)
 
   pub two : (by_profile : Bool) (fields apart : List ℕ) (bound : ℕ) → bound ≡ cold_below by_profile (greatest_hotness records types w by_profile fields)
-      → apart ≡ cold_fields w bound fields → true ≡ is_worth records types w by_profile apart
-      → outline Split (placed w (warm_fields w bound fields) ∷ placed w apart ∷ []) ≡ planned records types w by_profile false fields
-  two by_profile fields apart bound e same worth = ap (λ it. outline Split (placed w (warm_fields w bound fields) ∷ placed w it ∷ [])) same
+      → apart ≡ side w bound true fields → true ≡ is_worth records types w by_profile apart
+      → outline Split (placed w (side w bound false fields) ∷ placed w apart ∷ []) ≡ planned records types w by_profile false fields
+  two by_profile fields apart bound e same worth = ap (λ it. outline Split (placed w (side w bound false fields) ∷ placed w it ∷ [])) same
       ∙ split_by by_profile fields bound true e (worth ∙ ap (is_worth records types w by_profile) same)
 
   pub one : (by_profile : Bool) (fields apart : List ℕ) (bound : ℕ) → bound ≡ cold_below by_profile (greatest_hotness records types w by_profile fields)
-      → apart ≡ cold_fields w bound fields → false ≡ is_worth records types w by_profile apart
+      → apart ≡ side w bound true fields → false ≡ is_worth records types w by_profile apart
       → outline Reordered (placed w fields ∷ []) ≡ planned records types w by_profile false fields
   one by_profile fields apart bound e same worth = split_by by_profile fields bound false e (worth ∙ ap (is_worth records types w by_profile) same)
-
-  pub by_groups : (by_profile : Bool) (fields : List ℕ) → planned records types w by_profile true fields ≡ outline (decision_of (groups w fields)) (map (placed w) (groups w fields))
-  by_groups by_profile fields = go (groups w fields)
-    where
-      go : (all : List (List ℕ)) → peeled records types w by_profile all ≡ outline (decision_of all) (map (placed w) all)
-      go [] = refl
-      go (one ∷ []) = refl
-      go (one ∷ other ∷ more) = refl

@@ -3,7 +3,8 @@ use Rattle.std.proofs.Common.{◌≡◌, ℕ, zero, suc, ◌-◌, ◌<◌, List,
 use Rattle.affinity.specs.declared.fields.FieldWeights.{FieldWeights}
 use Rattle.layout_plan.specs.Order.{followed, nearest, others}
 
-pub one_more : (w : FieldWeights) (n f : ℕ) (rest : List ℕ) → 0 < n → followed w n (Some f) rest ≡ f ∷ followed w (n - 1) (nearest w f (others f rest)) (others f rest)
+pub one_more : (w : FieldWeights) (n f : ℕ) (rest : List ℕ) → 0 < n
+    → followed w n (Some f) rest ≡ f ∷ followed w (n - 1) (nearest w f (others f rest)) (others f rest)
 one_more w zero f rest h = absurd (omega (arith, h))
 one_more w (suc n) f rest h = ap (λ m. f ∷ followed w m (nearest w f (others f rest)) (others f rest)) same
   where

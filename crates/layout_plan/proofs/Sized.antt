@@ -1,6 +1,6 @@
 -- Sizes of the fields of a record.
 use Rattle.std.proofs.Common.{◌≡◌, ℕ, ◌+◌, ◌<◌, ◌≤◌, ◌^◌, Bool, true, false, List, [], ◌∷◌, length, refl, ap, ◌∙◌, arith, map, sym, subst, drop, drop-cons, get_or, suc}
-use Rattle.std.specs.Prelude.{fold, All, IsSomeAnd, IsTrue, slice_get, Option, Some, None, nat_lt, nat_le, unwrap_or}
+use Rattle.std.specs.Prelude.{All, IsSomeAnd, IsTrue, slice_get, Option, Some, None, nat_lt, nat_le, unwrap_or}
 use Rattle.std.specs.Option.{option_map}
 use Rattle.std.specs.Bool.{then_some}
 use Rattle.std.proofs.lemmas.Bool.{and_from, and_parts, lt-ltb, ltb-true, leb-true, leb-false}
@@ -16,9 +16,7 @@ use Rattle.c_types.specs.Types.{CType, Record, void, integer, pointer, array, fu
 use Rattle.c_types.specs.Views.{field_of, record_of, records_of, types_of_fields, type_of}
 use Rattle.c_typed.specs.TypeNumbers.{type_at}
 use Rattle.layout_plan.specs.PartSizes.{AreFieldsOf}
-
-abbrev pub sizes : List Record → List CType → (sum : ℕ) → List ℕ → ℕ
-sizes records types sum fields = fold (λ sum f. sum + size_of records (type_at types f)) sum fields
+use Rattle.layout_plan.specs.Sides.{sizes}
 
 -- ---- types of fields are object types
 

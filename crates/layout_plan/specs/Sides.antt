@@ -1,7 +1,11 @@
--- The fields of a record on both sides of a bound on hotness.
-use Rattle.std.specs.Prelude.{◌≡◌, ℕ, ◌+◌, ◌*◌, ◌/◌, nat_lt, Bool, true, false, not, IsSomeAnd, List, ◌∷◌, filter, slice_get}
+-- What becomes of a record, as its functions answer it: both sides of a bound on hotness, and sums of sizes.
+use Rattle.std.specs.Prelude.{◌≡◌, ℕ, ◌+◌, ◌*◌, ◌/◌, nat_lt, Bool, true, false, not, IsSomeAnd, List, ◌∷◌, filter, fold, slice_get}
 use Rattle.c_types.specs.declared.record.Field.{Field}
 use Rattle.c_types.specs.declared.record.Record.{Record}
+use Rattle.c_types.specs.Layouts.{size_of}
+use Rattle.c_types.specs.Types as T
+use Rattle.c_types.specs.Types.{CType}
+use Rattle.c_typed.specs.TypeNumbers.{type_at}
 use Rattle.affinity.specs.declared.fields.FieldWeights.{FieldWeights}
 use Rattle.affinity.specs.FieldWeights.{hotness_in}
 use Rattle.layout_plan.specs.declared.plans.Decision.{Decision}
@@ -12,13 +16,17 @@ abbrev pub cold_below : (by_profile : Bool) → (greatest : ℕ) → ℕ
 cold_below true greatest = (30 * greatest + 999) / 1000
 cold_below false greatest = (75 * greatest + 999) / 1000
 
-abbrev pub cold_fields : FieldWeights → (below : ℕ) → List ℕ → List ℕ
-cold_fields w below fields = filter (λ f. nat_lt (hotness_in w f) below) fields
+abbrev pub is_on : FieldWeights → (below : ℕ) → (is_cold : Bool) → (field : ℕ) → Bool
+is_on w below true f = nat_lt (hotness_in w f) below
+is_on w below false f = not (nat_lt (hotness_in w f) below)
 
-abbrev pub warm_fields : FieldWeights → (below : ℕ) → List ℕ → List ℕ
-warm_fields w below fields = filter (λ f. not (nat_lt (hotness_in w f) below)) fields
+abbrev pub side : FieldWeights → (below : ℕ) → (is_cold : Bool) → List ℕ → List ℕ
+side w below is_cold fields = filter (is_on w below is_cold) fields
 
 -- of a record that may be peeled
 abbrev pub decision_of : (groups : List (List ℕ)) → Decision
 decision_of (one ∷ other ∷ more) = Peeled
 decision_of few = Reordered
+
+abbrev pub sizes : List T.Record → List CType → (sum : ℕ) → List ℕ → ℕ
+sizes records types sum fields = fold (λ sum f. sum + size_of records (type_at types f)) sum fields

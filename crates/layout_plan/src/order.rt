@@ -1,7 +1,7 @@
 //! The order of the fields of a part, and groups of fields that are accessed together.
 
-ghost use Rattle.std.specs.Prelude.{◌≡◌, IfOk, OnOk, map};
-ghost use Rattle.layout_plan.specs.Joining.{group_of, with_member};
+ghost use Rattle.std.specs.Prelude.{◌≡◌, IfOk, OnOk};
+ghost use Rattle.layout_plan.specs.Joining.{group_of};
 ghost use Rattle.layout_plan.specs.Order.{groups, hotter, hottest, is_with, joined, nearer, nearest, others, placed};
 
 use affinity::FieldWeights;

@@ -1,6 +1,6 @@
 //! What becomes of a record that violates no test.
 
-ghost use Rattle.std.specs.Prelude.{◌≡◌, ◌+◌, ◌&&◌, ◌++◌, false, ◌∷◌, [], IfOk, OnOk, filter, fold, length, map, max, nat_le, nat_lt};
+ghost use Rattle.std.specs.Prelude.{◌≡◌, ◌&&◌, ◌++◌, false, ◌∷◌, [], IfOk, OnOk, filter, fold, length, map, max, nat_le, nat_lt};
 ghost use Rattle.c_types.specs.Layouts.{size_of};
 ghost use Rattle.c_types.specs.Limits.{size_if_small};
 ghost use Rattle.c_types.specs.Views.{records_of, types_of_fields};
@@ -9,9 +9,9 @@ ghost use Rattle.c_typed.specs.TypeNumbers.{type_at};
 ghost use Rattle.affinity.specs.FieldWeights.{hotness_in, is_read_in};
 ghost use Rattle.layout_plan.specs.declared.plans.Decision.TheVariants.{Reordered, Split};
 ghost use Rattle.layout_plan.specs.Order.{placed};
-ghost use Rattle.layout_plan.specs.Outlines.{is_worth, live, outline, planned, total_size};
+ghost use Rattle.layout_plan.specs.Outlines.{live, outline, planned};
 ghost use Rattle.layout_plan.specs.PartSizes.{AreFieldsOf};
-ghost use Rattle.layout_plan.specs.Sides.{cold_below, cold_fields, decision_of, warm_fields};
+ghost use Rattle.layout_plan.specs.Sides.{cold_below, decision_of, side, sizes};
 
 use crate::order::{groups, placed};
 use crate::outline::Outline;
@@ -104,34 +104,19 @@ fn cold_below(by_profile: bool, greatest: u128) -> u128
     }
 }
 
-fn cold_fields(
+/// The fields on one side of a bound on hotness.
+fn side(
     alloc: Global,
     w: &FieldWeights,
     below: u128,
+    is_cold: bool,
     fields: &[u32],
 ) -> Result<List<u32>, NoMemory>
-    ensures { IfOk result (λ r. r ≡ cold_fields w.now below fields.now) }
+    ensures { IfOk result (λ r. r ≡ side w.now below is_cold fields.now) }
 {
     let mut all = List::new(alloc);
     for f in fields {
-        if w.hotness(*f) < below {
-            add(&mut all, *f)?;
-        }
-    }
-    Ok(all)
-}
-
-fn warm_fields(
-    alloc: Global,
-    w: &FieldWeights,
-    below: u128,
-    fields: &[u32],
-) -> Result<List<u32>, NoMemory>
-    ensures { IfOk result (λ r. r ≡ warm_fields w.now below fields.now) }
-{
-    let mut all = List::new(alloc);
-    for f in fields {
-        if w.hotness(*f) >= below {
+        if (w.hotness(*f) < below) == is_cold {
             add(&mut all, *f)?;
         }
     }
@@ -153,7 +138,7 @@ fn size_at(records: &Records, own: &[Field], f: u32) -> Option<u32>
 /// Whether fields take more than a link does, which has 4 bytes.
 fn is_larger_than_link(records: &Records, own: &[Field], fields: &[u32]) -> bool
     requires { AreFieldsOf records.now own.now }
-    ensures { result ≡ nat_lt 4 (fold (λ sum f. sum + size_of (records_of records.now) (type_at (types_of_fields own.now) f)) 0 fields.now) }
+    ensures { result ≡ nat_lt 4 (sizes (records_of records.now) (types_of_fields own.now) 0 fields.now) }
 {
     let mut sum: u32 = 0;
     for f in fields {
@@ -170,7 +155,7 @@ fn is_larger_than_link(records: &Records, own: &[Field], fields: &[u32]) -> bool
 
 fn is_worth(records: &Records, own: &[Field], apart: &[u32]) -> bool
     requires { AreFieldsOf records.now own.now }
-    ensures { result ≡ (nat_le 2 (length apart.now) && nat_lt 4 (fold (λ sum f. sum + size_of (records_of records.now) (type_at (types_of_fields own.now) f)) 0 apart.now)) }
+    ensures { result ≡ (nat_le 2 (length apart.now) && nat_lt 4 (sizes (records_of records.now) (types_of_fields own.now) 0 apart.now)) }
 {
     apart.len() >= 2 && is_larger_than_link(records, own, apart)
 }
@@ -197,10 +182,10 @@ fn in_two(
     fields: &[u32],
     apart: List<u32>,
 ) -> Result<Outline, NoMemory>
-    ensures { IfOk result (λ o. o ≡ outline Split (placed w.now (warm_fields w.now below fields.now) ∷ placed w.now apart ∷ [])) }
+    ensures { IfOk result (λ o. o ≡ outline Split (placed w.now (side w.now below false fields.now) ∷ placed w.now apart ∷ [])) }
 {
     let mut parts = List::new(alloc);
-    let warm = warm_fields(alloc, w, below, fields)?;
+    let warm = side(alloc, w, below, false, fields)?;
     add_placed(alloc, w, &mut parts, warm)?;
     add_placed(alloc, w, &mut parts, apart)?;
     Ok(Outline {
@@ -209,7 +194,7 @@ fn in_two(
     })
 }
 
-/// Of a record that may not be peeled, whose fields that are not cold have at least so much hotness.
+/// Of a record that may not be peeled.
 fn split(
     alloc: Global,
     records: &Records,
@@ -222,7 +207,7 @@ fn split(
     ensures { IfOk result (λ o. o ≡ planned (records_of records.now) (types_of_fields own.now) w.now by_profile false fields.now) }
 {
     let below = cold_below(by_profile, greatest_hotness(w, fields));
-    let apart = cold_fields(alloc, w, below, fields)?;
+    let apart = side(alloc, w, below, true, fields)?;
     if is_worth(records, own, apart.as_slice()) {
         in_two(alloc, w, below, fields, apart)
     } else {

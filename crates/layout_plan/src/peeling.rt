@@ -1,6 +1,6 @@
 //! Which records may be peeled: each starts with a mark, and one pass over a program clears those of the records that it holds back.
 
-ghost use Rattle.std.specs.Prelude.{◌≡◌, ◌<◌, ◌++◌, ◌∷◌, [], IfOk, Some, flat_map, fold, length, map, replicate, slice_get, true, ℕ};
+ghost use Rattle.std.specs.Prelude.{◌≡◌, ◌<◌, IfOk, Some, flat_map, fold, length, map, replicate, slice_get, true, ℕ};
 ghost use Rattle.std.specs.Option.{option_copied};
 ghost use Rattle.c_types.specs.Views.{record_of, records_of, type_of, types_of};
 ghost use Rattle.c_typed.specs.Programs.{data_of, program_data};
@@ -219,7 +219,7 @@ fn left(alloc: Global, p: &Typed, facts: &[Fact]) -> Result<List<bool>, NoMemory
 #[tactic(auto, using(crate::proofs::Left::counted, crate::proofs::Left::peelable))]
 pub fn peelable(alloc: Global, p: &Typed, facts: &[Fact]) -> Result<List<bool>, NoMemory>
     ensures counted { IfOk result (λ all. length all ≡ length p.now.records) }
-    ensures each { IfOk result (λ all. (number : ℕ) → number < length p.now.records → slice_get all number ≡ Some (is_peelable (program_data p.now) facts.now number)) }
+    ensures each { IfOk result (λ all. (r : ℕ) → r < length p.now.records → slice_get all r ≡ Some (is_peelable (program_data p.now) facts.now r)) }
 {
     left(alloc, p, facts)
 }

@@ -1,7 +1,8 @@
 use Rattle.std.proofs.Common.{◌<◌, sym, subst, ◌∙◌}
 use Rattle.std.proofs.lemmas.Bool.{lt-ltb}
 use Rattle.c_types.specs.Views.{records_of, types_of_fields}
-use Rattle.layout_plan.proofs.Sized.{passed_alone, passed_by, sizes}
+use Rattle.layout_plan.specs.Sides.{sizes}
+use Rattle.layout_plan.proofs.Sized.{passed_alone, passed_by}
 use Rattle.layout_plan.proofs.outlining.is_larger_than_link.Goals as goal
 
 pub returns-in-None : goal.returns-in-None
