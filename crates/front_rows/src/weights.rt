@@ -44,7 +44,12 @@ fn put_records(out: &mut Writer, alloc: Global, w: &Weights, records: &[Record])
     for record in records {
         out.bytes(record.tag.as_slice());
         let fields = record.fields.as_slice();
-        match field_weights(alloc, w, number, u32::try_from(fields.len()).unwrap_or(u32::MAX)) {
+        match field_weights(
+            alloc,
+            w,
+            number,
+            u32::try_from(fields.len()).unwrap_or(u32::MAX),
+        ) {
             Ok(weights) => put_fields(out, &weights, fields),
             Err(NoMemory) => out.word("out of memory"),
         }
