@@ -71,5 +71,5 @@ module _ (of : ℕ) where
       own_affinities = same_map (λ f. map (λ g. affinity weights of f g those) (numbers_below count))
           (λ f. map (λ g. affinity weights of f g all) (numbers_below count))
           (λ f. same_map (λ g. affinity weights of f g those) (λ g. affinity weights of f g all)
-              (λ g. ap (affinity weights of f g) h ∙ affinity_same 0 weights f g all) (numbers_below count))
+          (λ g. ap (affinity weights of f g) h ∙ affinity_same 0 weights f g all) (numbers_below count))
           (numbers_below count)

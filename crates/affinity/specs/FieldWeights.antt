@@ -1,5 +1,5 @@
 -- How often the fields of one record are accessed, alone and two together, and which of them are read: lists over its fields in declared order.
-use Rattle.std.specs.Prelude.{ℕ, Bool, false, List, [], map, Option, Some, None, slice_get, unwrap_or}
+use Rattle.std.specs.Prelude.{ℕ, Bool, false, List, map, Option, Some, None, slice_get, unwrap_or}
 use Rattle.c_typed.specs.RunCounts.Counting.{numbers_below}
 use Rattle.affinity.specs.declared.fields.FieldWeights.{FieldWeights}
 use Rattle.affinity.specs.declared.weights.Weights.{Weights}

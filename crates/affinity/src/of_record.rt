@@ -1,4 +1,4 @@
-//! The weights of the fields of one record. Only its own accesses, and the groups that have one, are looked at for each field or pair of fields.
+//! The weights of the fields of one record. For each field only the record's own accesses are gone through, for two fields only the groups that have one.
 
 ghost use Rattle.std.specs.Prelude.{◌≡◌, IfOk, length, map};
 ghost use Rattle.c_typed.specs.RunCounts.Counting.{numbers_below};
@@ -141,7 +141,12 @@ pub fn hotnesses(alloc: Global, w: &Weights, of: u32, count: u32) -> Result<List
 }
 
 /// What the weights say of the first fields of a record.
-pub fn field_weights(alloc: Global, w: &Weights, of: u32, count: u32) -> Result<FieldWeights, NoMemory>
+pub fn field_weights(
+    alloc: Global,
+    w: &Weights,
+    of: u32,
+    count: u32,
+) -> Result<FieldWeights, NoMemory>
     ensures { IfOk result (λ it. it ≡ field_weights w.now of count) }
 {
     let all = own(alloc, of, w.accesses.as_slice())?;

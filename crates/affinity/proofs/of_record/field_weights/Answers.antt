@@ -20,7 +20,8 @@ returns c =
     let of = c.args.of in
     let count = c.args.count in
     let all = c.in_ok-all.all in
+    let read = reads_of w of count in
     let own_are = c.in_ok-all.ensures ∙ ap (own of) c.as_slice.ensures in
     ap (λ it. the_record it c.in_ok-hotness.hotness c.in_ok-affinity.affinity) (c.in_ok-read.ensures ∙ own_reads of count all w.accesses own_are)
-    ∙ ap (λ it. the_record (reads_of w of count) it c.in_ok-affinity.affinity) (c.in_ok-hotness.ensures ∙ own_hotnesses of count all w.accesses own_are w.groups)
-    ∙ ap (the_record (reads_of w of count) (hotnesses w of count)) (c.in_ok-affinity.ensures ∙ own_affinities of count all w.accesses own_are w.groups)
+    ∙ ap (λ it. the_record read it c.in_ok-affinity.affinity) (c.in_ok-hotness.ensures ∙ own_hotnesses of count all w.accesses own_are w.groups)
+    ∙ ap (the_record read (hotnesses w of count)) (c.in_ok-affinity.ensures ∙ own_affinities of count all w.accesses own_are w.groups)
