@@ -24,8 +24,6 @@ use Rattle.c_typed.specs.TypeNumbers.{type_at}
 use Rattle.affinity.specs.declared.fields.FieldWeights.{FieldWeights}
 use Rattle.affinity.specs.declared.weights.Weights.{Weights}
 use Rattle.affinity.specs.FieldWeights.{field_weights, is_read_in}
-use Rattle.c_facts.specs.declared.fact.Fact.{Fact}
-use Rattle.c_typed.specs.Programs.{ProgramData}
 use Rattle.legality.specs.declared.violation.Violation.{Violation}
 use Rattle.layout_plan.specs.declared.outline.Outline.{Outline}
 use Rattle.layout_plan.specs.declared.plans.Decision.TheVariants.{Reordered, Split}

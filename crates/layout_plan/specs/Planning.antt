@@ -1,5 +1,5 @@
 -- What is found out of a program as it is planned.
-use Rattle.std.specs.Prelude.{◌≡◌, ℕ, ◌≤◌, List, All, Option, length}
+use Rattle.std.specs.Prelude.{◌≡◌, ◌≤◌, List, All, Option, length}
 use Rattle.c_types.specs.Types.{Record}
 use Rattle.c_typed.specs.declared.run_counts.counts.Counts.{Counts}
 use Rattle.c_typed.specs.Programs.{ProgramData}

@@ -1,5 +1,5 @@
 -- The plan of a program: where each field of each record lies (own).
-use Rattle.std.specs.Prelude.{ℕ, ◌+◌, List, [], ◌∷◌, map, length, Option, Some, None}
+use Rattle.std.specs.Prelude.{ℕ, ◌+◌, Bool, List, [], ◌∷◌, map, length, Option, Some, None}
 use Rattle.c_types.specs.Types.{CType, Record, field_types}
 use Rattle.c_typed.specs.RunCounts.Counting.{numbers_below}
 use Rattle.c_typed.specs.Programs.{ProgramData}

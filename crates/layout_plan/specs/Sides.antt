@@ -1,7 +1,5 @@
 -- What becomes of a record, as its functions answer it: both sides of a bound on hotness, and sums of sizes.
-use Rattle.std.specs.Prelude.{◌≡◌, ℕ, ◌+◌, ◌*◌, ◌/◌, nat_lt, Bool, true, false, not, IsSomeAnd, List, ◌∷◌, filter, fold, slice_get}
-use Rattle.c_types.specs.declared.record.Field.{Field}
-use Rattle.c_types.specs.declared.record.Record.{Record}
+use Rattle.std.specs.Prelude.{ℕ, ◌+◌, ◌*◌, ◌/◌, nat_lt, Bool, true, false, not, List, ◌∷◌, filter, fold}
 use Rattle.c_types.specs.Layouts.{size_of}
 use Rattle.c_types.specs.Types as T
 use Rattle.c_types.specs.Types.{CType}

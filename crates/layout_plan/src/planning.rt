@@ -101,7 +101,7 @@ fn outline_of(
 }
 
 /// The plan of the record of that number.
-#[tactic(auto, using(crate::proofs::Fields::are_own, crate::proofs::Small::outline_small))]
+#[tactic(auto, using(crate::proofs::Small::outline_small))]
 fn plan_of(
     alloc: Global,
     records: &Records,
