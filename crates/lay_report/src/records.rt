@@ -35,7 +35,17 @@ pub fn put_plain(text: &mut Text, size: u32, r: &Record)
 {
     let mut number = Buffer::new();
     let size = number.format(size).as_bytes();
-    put_line(text, &[b"record ", r.tag.as_slice(), b" size ", size, b": ", b"plain"]);
+    put_line(
+        text,
+        &[
+            b"record ",
+            r.tag.as_slice(),
+            b" size ",
+            size,
+            b": ",
+            b"plain",
+        ],
+    );
 }
 
 fn put_decision(text: &mut Text, place: &[u8], decision: Decision, parts: usize)
@@ -59,7 +69,16 @@ fn put_head(text: &mut Text, tag: &[u8], size: u32, place: &[u8], decision: Deci
     ensures { Writes text.old text.new (record_line tag.now size (decision_text place.now decision parts)) }
 {
     let mut number = Buffer::new();
-    put_all(text, &[b"record ", tag, b" size ", number.format(size).as_bytes(), b": "]);
+    put_all(
+        text,
+        &[
+            b"record ",
+            tag,
+            b" size ",
+            number.format(size).as_bytes(),
+            b": ",
+        ],
+    );
     put_decision(text, place, decision, parts);
     put(text, b"\n");
 }
@@ -75,7 +94,19 @@ fn put_field(text: &mut Text, name: &[u8], at: Option<PartField>, hotness: u128)
     let part = part.format(at.part).as_bytes();
     let offset = offset.format(at.offset).as_bytes();
     let sum = sum.format(hotness).as_bytes();
-    put_line(text, &[b"  ", name, b" part ", part, b" offset ", offset, b" hotness ", sum]);
+    put_line(
+        text,
+        &[
+            b"  ",
+            name,
+            b" part ",
+            part,
+            b" offset ",
+            offset,
+            b" hotness ",
+            sum,
+        ],
+    );
 }
 
 fn place_at(places: &[Option<PartField>], number: usize) -> Option<PartField>
@@ -123,10 +154,24 @@ fn put_parts(text: &mut Text, sizes: &[u32])
 }
 
 /// The lines of a record by its plan. The file and the line of its violation, if it has one, are `place`.
-pub fn put_planned(text: &mut Text, size: u32, r: &Record, place: &[u8], hotness: &[u128], plan: &RecordPlan)
+pub fn put_planned(
+    text: &mut Text,
+    size: u32,
+    r: &Record,
+    place: &[u8],
+    hotness: &[u128],
+    plan: &RecordPlan,
+)
     ensures { Writes text.old text.new (planned_text size (record_of r.now) place.now hotness.now plan.now) }
 {
-    put_head(text, r.tag.as_slice(), size, place, plan.decision, plan.sizes.len());
+    put_head(
+        text,
+        r.tag.as_slice(),
+        size,
+        place,
+        plan.decision,
+        plan.sizes.len(),
+    );
     match plan.decision {
         Decision::Refused(_) => {}
         Decision::Reordered | Decision::Split | Decision::Peeled => {

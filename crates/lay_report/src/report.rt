@@ -79,11 +79,25 @@ fn put_by_plan(
     };
     match hotnesses(alloc, &planned.weights, number, r.fields.len() as u32) {
         Err(NoMemory) => text.full = true,
-        Ok(hotness) => put_planned(text, size, r, place_of(places, number), hotness.as_slice(), plan),
+        Ok(hotness) => put_planned(
+            text,
+            size,
+            r,
+            place_of(places, number),
+            hotness.as_slice(),
+            plan,
+        ),
     }
 }
 
-fn put_record(alloc: Global, text: &mut Text, records: &Records, number: u32, planned: Option<&Planned>, places: &[Bytes])
+fn put_record(
+    alloc: Global,
+    text: &mut Text,
+    records: &Records,
+    number: u32,
+    planned: Option<&Planned>,
+    places: &[Bytes],
+)
     ensures { Writes text.old text.new (text_at (records_of records.now) (option_copied planned.entry) places.now number) }
 {
     if number >= records.len() {
@@ -97,7 +111,14 @@ fn put_record(alloc: Global, text: &mut Text, records: &Records, number: u32, pl
     }
 }
 
-fn put_records(alloc: Global, text: &mut Text, records: &Records, order: &[Defined], planned: Option<&Planned>, places: &[Bytes])
+fn put_records(
+    alloc: Global,
+    text: &mut Text,
+    records: &Records,
+    order: &[Defined],
+    planned: Option<&Planned>,
+    places: &[Bytes],
+)
     ensures { Writes text.old text.new (flat_map (λ d. text_at (records_of records.now) (option_copied planned.entry) places.now d.number) order.now) }
 {
     for d in order {
@@ -107,13 +128,25 @@ fn put_records(alloc: Global, text: &mut Text, records: &Records, order: &[Defin
 
 /// The report of a program by a plan, or of its records as they are declared where there is none. The texts FILE:LINE of the places of violations are
 /// given, one for each record by its number; of a record that has no violation none is read.
-pub fn report(alloc: Global, p: &Typed, planned: Option<&Planned>, places: &[Bytes]) -> Result<Vec<u8>, NoMemory>
+pub fn report(
+    alloc: Global,
+    p: &Typed,
+    planned: Option<&Planned>,
+    places: &[Bytes],
+) -> Result<Vec<u8>, NoMemory>
     ensures { IfOk result (λ text. IsReport (records_of p.now.records) (option_copied planned.entry) places.now text.items) }
 {
     let order = report_order(alloc, p.records.as_slice())?;
     let mut text = Text::new(alloc);
     put_line(&mut text, &[b"layc report 1"]);
-    put_records(alloc, &mut text, &p.records, order.as_slice(), planned, places);
+    put_records(
+        alloc,
+        &mut text,
+        &p.records,
+        order.as_slice(),
+        planned,
+        places,
+    );
     if text.full {
         return Err(NoMemory);
     }

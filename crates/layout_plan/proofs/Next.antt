@@ -37,7 +37,7 @@ pub planned_more : (p : ProgramData) (facts : List Fact) (verdicts : List (Optio
     (is : Bool) (verdict : Option Violation) (done all : List RecordPlan) (plan : RecordPlan) → is ≡ is_peelable p facts number
     → verdict ≡ verdict_of verdicts number
     → IsSomeAnd (slice_get records number) (λ r. plan ≡ record_plan p.records (types_of_fields r.fields)
-        (outline_of p.records w is verdict number (types_of_fields r.fields)))
+    (outline_of p.records w is verdict number (types_of_fields r.fields)))
     → done ++ plans_from p facts verdicts w number (records_of (drop number records)) ≡ all
     → (done ++ plan ∷ []) ++ plans_from p facts verdicts w (number + 1) (records_of (drop (number + 1) records)) ≡ all
 planned_more p facts verdicts w records number is verdict done all plan peels judged gives before =
@@ -46,6 +46,6 @@ planned_more p facts verdicts w records number is verdict done all plan peels ju
     let own : plan ≡ plan_of_record p facts verdicts w number (record_of r) = rw (← peels, ← judged) found.2 in
     let rest = plans_from p facts verdicts w (number + 1) (records_of (drop (number + 1) records)) in
     let here : drop number records ≡ r ∷ drop (number + 1) records = drop_more records number r (slice_get_within records number r found.1)
-        ∙ ap (λ x. x ∷ drop (number + 1) records) (get_or_from_slice_get records number r r found.1) in
+    ∙ ap (λ x. x ∷ drop (number + 1) records) (get_or_from_slice_get records number r r found.1) in
     let opened : done ++ plan_of_record p facts verdicts w number (record_of r) ∷ rest ≡ all = rw here at before in
     append_assoc done (plan ∷ []) rest ∙ ap (λ x. done ++ x ∷ rest) own ∙ opened

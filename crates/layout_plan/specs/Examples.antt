@@ -47,8 +47,15 @@ program records objects locals = record {
   types = pointer (structure 0) ∷ integer Int ∷ pointer (pointer (structure 0)) ∷ [];
   objects = objects;
   functions = record {
-      name = codes "main"; place = start; ty = 1; is_linked = true; parameters = []; locals = locals; body = None; nodes = 0
-    } ∷ [];
+    name = codes "main";
+    place = start;
+    ty = 1;
+    is_linked = true;
+    parameters = [];
+    locals = locals;
+    body = None;
+    nodes = 0;
+  } ∷ [];
   mentions = [];
   main = 0;
   nodes = 0;
@@ -185,7 +192,12 @@ example_object = refl
 
 abbrev holds_address : Object
 holds_address = record {
-  name = codes "w"; place = start; ty = 1; linked = true; text = false; initial = Some (record { offset = 0; value = Address 1 0 0 } ∷ []);
+  name = codes "w";
+  place = start;
+  ty = 1;
+  linked = true;
+  text = false;
+  initial = Some (record { offset = 0; value = Address 1 0 0 } ∷ []);
 }
 
 example_address : peels (holds_address ∷ []) [] of_arrays ≡ one_part

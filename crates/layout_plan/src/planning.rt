@@ -143,11 +143,7 @@ pub fn plan(
 }
 
 /// The plan of a program, by a profile or, where there is none, by the depths of loops; with the weights by which it was made.
-pub fn planned(
-    alloc: Global,
-    p: &Typed,
-    counts: Option<&Counts>,
-) -> Result<Planned, NoMemory>
+pub fn planned(alloc: Global, p: &Typed, counts: Option<&Counts>) -> Result<Planned, NoMemory>
     requires { HaveFewFields (records_of p.now.records) }
     ensures { IfOk result (IsPlanned (option_copied counts.entry) (program_data p.now)) }
 {

@@ -7,4 +7,4 @@ use Rattle.lay_report.proofs.records.put_fields.Given as goal
 abbrev pub invariant-loop-number : goal.invariant-loop-number
 invariant-loop-number l = l.text.full ≡ false → (l.fn.text.full ≡ false)
     × (l.text.bytes.items ++ field_lines l.number (map field_of (drop l.number l.fields)) l.places l.hotness
-        ≡ l.fn.text.bytes.items ++ field_lines 0 (map field_of l.fields) l.places l.hotness)
+    ≡ l.fn.text.bytes.items ++ field_lines 0 (map field_of l.fields) l.places l.hotness)
