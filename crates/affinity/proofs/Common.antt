@@ -21,7 +21,7 @@ set_elsewhere (x ∷ marks) zero (suc m) h = refl
 set_elsewhere (x ∷ marks) (suc n) zero h = refl
 set_elsewhere (x ∷ marks) (suc n) (suc m) h = set_elsewhere marks n m (λ e. h (ap suc e))
 
-set_length : (marks : List Bool) (n : ℕ) → length (slice_set marks n true) ≡ length marks
+pub set_length : (marks : List Bool) (n : ℕ) → length (slice_set marks n true) ≡ length marks
 set_length [] n = refl
 set_length (x ∷ marks) zero = refl
 set_length (x ∷ marks) (suc n) = ap suc (set_length marks n)

@@ -1,3 +1,5 @@
 mod Walked
 mod Common
+mod Kept
+mod Own
 mod Weighed

@@ -4,4 +4,5 @@ pub mod Sums
 pub mod Weighing
 pub mod Walking
 pub mod Touched
+pub mod FieldWeights
 mod Examples

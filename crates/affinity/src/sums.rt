@@ -1,50 +1,37 @@
-//! What the weights of groups say of fields.
+//! Sums over accesses, marks of groups, and the sum over the groups with two marks.
 
-ghost use Rattle.std.specs.Prelude.{◌≡◌, ◌&&◌, if◌then◌else◌, IfOk, false, fold, length, replicate};
+ghost use Rattle.std.specs.Prelude.{◌≡◌, ◌&&◌, if◌then◌else◌, IfOk, false, fold, replicate, slice_set, true};
 ghost use Rattle.affinity.specs.GroupWeights.{weight_of};
-ghost use Rattle.affinity.specs.Sums.{affinity, hotness, is_read};
-ghost use Rattle.affinity.specs.Touched.{common, is_marked, marked};
+ghost use Rattle.affinity.specs.Sums.{hotness, is_read};
+ghost use Rattle.affinity.specs.Touched.{common, is_marked, marked, marked_group, touched, touched_at_all};
 
 use crate::access::{Access, is_to};
-use crate::weights::Weights;
 use lay_base::{List, NoMemory};
 use std::alloc::Global;
 
-impl Weights {
-    /// How often a field of a record is accessed: the sum of the weights of its accesses.
-    pub fn hotness(&self, of: u32, field: u32) -> u128
-        ensures { result ≡ hotness self.now.groups of field self.now.accesses }
-    {
-        let mut sum: u128 = 0;
-        for a in self.accesses.as_slice() {
-            if is_to(*a, of, field) {
-                sum += u128::from(weight_of(self.groups.as_slice(), a.group));
-            }
+/// How often a field is accessed, by the weights of groups.
+pub fn hotness(groups: &[u64], of: u32, field: u32, all: &[Access]) -> u128
+    ensures { result ≡ hotness groups.now of field all.now }
+{
+    let mut sum: u128 = 0;
+    for a in all {
+        if is_to(*a, of, field) {
+            sum += u128::from(weight_of(groups, a.group));
         }
-        sum
     }
+    sum
+}
 
-    /// Whether the value of a field of a record is ever loaded.
-    pub fn is_read(&self, of: u32, field: u32) -> bool
-        ensures { result ≡ is_read of field self.now.accesses }
-    {
-        for a in self.accesses.as_slice() {
-            if is_to(*a, of, field) && a.is_read {
-                return true;
-            }
+/// Whether the value of a field is ever loaded.
+pub fn is_read(of: u32, field: u32, all: &[Access]) -> bool
+    ensures { result ≡ is_read of field all.now }
+{
+    for a in all {
+        if is_to(*a, of, field) && a.is_read {
+            return true;
         }
-        false
     }
-
-    /// How often two fields of a record are accessed together: the sum of the weights of the groups that access both.
-    #[tactic(auto, using(crate::proofs::Common::common_is_affinity))]
-    pub fn affinity(&self, alloc: Global, of: u32, one: u32, other: u32) -> Result<u128, NoMemory>
-        ensures { IfOk result (λ sum. sum ≡ affinity self.now.groups of one other self.now.accesses) }
-    {
-        let ones = touched(alloc, self, of, one)?;
-        let others = touched(alloc, self, of, other)?;
-        Ok(common(self.groups.as_slice(), ones.as_slice(), others.as_slice()))
-    }
+    false
 }
 
 /// The weight of a group, 0 where there is none.
@@ -57,11 +44,19 @@ fn weight_of(weights: &[u64], group: usize) -> u64
     }
 }
 
+fn mark_group(marks: &mut [bool], group: usize)
+    ensures { marks.new ≡ slice_set marks.old group true }
+{
+    if group < marks.len() {
+        marks[group] = true;
+    }
+}
+
 fn mark(marks: &mut [bool], of: u32, field: u32, a: Access)
     ensures { marks.new ≡ marked of field marks.old a }
 {
-    if is_to(a, of, field) && a.group < marks.len() {
-        marks[a.group] = true;
+    if is_to(a, of, field) {
+        mark_group(marks, a.group);
     }
 }
 
@@ -73,26 +68,48 @@ fn mark_all(marks: &mut [bool], of: u32, field: u32, all: &[Access])
     }
 }
 
-/// Which groups access a field.
-fn touched(alloc: Global, w: &Weights, of: u32, field: u32) -> Result<List<bool>, NoMemory>
-    ensures { IfOk result (λ marks. marks ≡ fold (marked of field) (replicate (length w.now.groups) false) w.now.accesses) }
+fn mark_groups(marks: &mut [bool], all: &[Access])
+    ensures { marks.new ≡ fold marked_group marks.old all.now }
 {
-    match vec![in alloc; false; w.groups.len()] {
-        Err(_) => Err(NoMemory),
-        Ok(marks) => {
-            let mut marks = List::of(marks);
-            mark_all(
-                marks.as_mut_vec().as_mut_slice(),
-                of,
-                field,
-                w.accesses.as_slice(),
-            );
-            Ok(marks)
-        }
+    for a in all {
+        mark_group(marks, a.group);
     }
 }
 
-fn is_marked(marks: &[bool], group: usize) -> bool
+fn unmarked(alloc: Global, groups: usize) -> Result<List<bool>, NoMemory>
+    ensures { IfOk result (λ marks. marks ≡ replicate groups false) }
+{
+    match vec![in alloc; false; groups] {
+        Ok(marks) => Ok(List::of(marks)),
+        Err(_) => Err(NoMemory),
+    }
+}
+
+/// Which groups access a field.
+pub fn touched(
+    alloc: Global,
+    of: u32,
+    field: u32,
+    groups: usize,
+    all: &[Access],
+) -> Result<List<bool>, NoMemory>
+    ensures { IfOk result (λ marks. marks ≡ touched of field groups all.now) }
+{
+    let mut marks = unmarked(alloc, groups)?;
+    mark_all(marks.as_mut_vec().as_mut_slice(), of, field, all);
+    Ok(marks)
+}
+
+/// Which groups are those of some access.
+pub fn touched_at_all(alloc: Global, groups: usize, all: &[Access]) -> Result<List<bool>, NoMemory>
+    ensures { IfOk result (λ marks. marks ≡ touched_at_all groups all.now) }
+{
+    let mut marks = unmarked(alloc, groups)?;
+    mark_groups(marks.as_mut_vec().as_mut_slice(), all);
+    Ok(marks)
+}
+
+pub fn is_marked(marks: &[bool], group: usize) -> bool
     ensures { result ≡ is_marked marks.now group }
 {
     match marks.get(group) {
@@ -113,7 +130,7 @@ fn common_weight(weight: u64, ones: &[bool], others: &[bool], group: usize) -> u
 }
 
 /// The sum over the groups that have both marks.
-fn common(weights: &[u64], ones: &[bool], others: &[bool]) -> u128
+pub fn common(weights: &[u64], ones: &[bool], others: &[bool]) -> u128
     ensures { result ≡ common 0 weights.now ones.now others.now }
 {
     let mut sum: u128 = 0;

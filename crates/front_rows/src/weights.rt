@@ -3,7 +3,7 @@
 ghost use Rattle.std.specs.Prelude.{◌<◌, ◌^◌, length};
 
 use crate::profiles::MOST_FUNCTIONS;
-use affinity::{Weights, weigh};
+use affinity::{FieldWeights, Weights, field_weights, weigh};
 use c_facts::facts;
 use c_typed::Typed;
 use c_types::{Field, Record};
@@ -19,36 +19,22 @@ fn weights_of(alloc: Global, program: &Typed) -> Result<Weights, NoMemory>
 }
 
 /// The affinity of a field to each one.
-fn put_affinities(
-    out: &mut Writer,
-    alloc: Global,
-    w: &Weights,
-    of: u32,
-    one: u32,
-    fields: &[Field],
-) {
+fn put_affinities(out: &mut Writer, w: &FieldWeights, one: u32, fields: &[Field]) {
     let mut other: u32 = 0;
     for _ in fields {
-        match w.affinity(alloc, of, one, other) {
-            Ok(sum) => out.value(&sum),
-            Err(NoMemory) => out.word("out of memory"),
-        }
+        out.value(&w.affinity(one, other));
         other = other.saturating_add(1);
     }
 }
 
 /// Each field by its name, whether it is read, how hot it is, and its affinity to each one, itself too.
-fn put_fields(out: &mut Writer, alloc: Global, w: &Weights, of: u32, fields: &[Field]) {
+fn put_fields(out: &mut Writer, w: &FieldWeights, fields: &[Field]) {
     let mut number: u32 = 0;
     for field in fields {
         out.bytes(field.name.as_slice());
-        out.word(if w.is_read(of, number) {
-            "read"
-        } else {
-            "dead"
-        });
-        out.value(&w.hotness(of, number));
-        put_affinities(out, alloc, w, of, number, fields);
+        out.word(if w.is_read(number) { "read" } else { "dead" });
+        out.value(&w.hotness(number));
+        put_affinities(out, w, number, fields);
         number = number.saturating_add(1);
     }
 }
@@ -57,7 +43,16 @@ fn put_records(out: &mut Writer, alloc: Global, w: &Weights, records: &[Record])
     let mut number: u32 = 0;
     for record in records {
         out.bytes(record.tag.as_slice());
-        put_fields(out, alloc, w, number, record.fields.as_slice());
+        let fields = record.fields.as_slice();
+        match field_weights(
+            alloc,
+            w,
+            number,
+            u32::try_from(fields.len()).unwrap_or(u32::MAX),
+        ) {
+            Ok(weights) => put_fields(out, &weights, fields),
+            Err(NoMemory) => out.word("out of memory"),
+        }
         number = number.saturating_add(1);
     }
 }
