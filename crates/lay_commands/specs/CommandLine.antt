@@ -30,11 +30,11 @@ elf_argument = record (new_rule (codes "ELF")) { required = true }
 
 -- ---- the commands
 
--- compile -o OUT [--plain] [--heap MIB] [--stack MIB] FILE...
+-- compile -o OUT [--profile P] [--plain] [--heap MIB] [--stack MIB] FILE...
 abbrev pub compile_command : App
 compile_command =
-    with_rule (with_rule (with_rule (with_rule (with_rule (new_app (codes "compile"))
-    out_option) plain_flag) (long_option (codes "heap"))) (long_option (codes "stack"))) files_argument
+    with_rule (with_rule (with_rule (with_rule (with_rule (with_rule (new_app (codes "compile"))
+    out_option) (long_option (codes "profile"))) plain_flag) (long_option (codes "heap"))) (long_option (codes "stack"))) files_argument
 
 -- profile -o P [--turns N] FILE...
 abbrev pub profile_command : App

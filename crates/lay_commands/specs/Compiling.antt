@@ -1,29 +1,69 @@
 -- The outside after `compile`.
-use Rattle.std.specs.Prelude.{◌≡◌, ◌≢◌, ℕ, false, true, List, [], ◌∷◌, ◌++◌, take, codes, Option, Some, ◌⊎◌}
+use Rattle.std.specs.Prelude.{◌≡◌, ℕ, Bool, false, true, List, [], ◌∷◌, take, map, Option, Some, None, Result, Ok, Err, ◌⊎◌, ⊤}
+use Rattle.std.specs.List.{list_any}
 use Rattle.lay_base.specs.Known.{Contents, Rose, IfKnown, Appends, FilesKeepBut}
-use Rattle.c_link.specs.Programs.{IsProgramOf}
+use Rattle.lay_base.specs.declared.place.File.{File}
+use Rattle.refusals.specs.declared.refusal.Refusal.{Refusal}
+use Rattle.refusals.specs.declared.refusal.Refusal.TheVariants as R
+use Rattle.c_typed.specs.declared.run_counts.counts.Counts.{Counts}
 use Rattle.c_typed.specs.Programs.{ProgramData}
+use Rattle.layout_plan.specs.declared.plans.Decision.{Decision}
+use Rattle.layout_plan.specs.declared.plans.Decision.TheVariants.{Refused}
+use Rattle.layout_plan.specs.declared.plans.Planned.{Planned}
+use Rattle.layout_plan.specs.declared.plans.RecordPlan.{RecordPlan}
+use Rattle.layout_plan.specs.Planning.{IsPlanned}
+use Rattle.lay_report.specs.Reports.{IsReport}
 use Rattle.lay_commands.specs.Words.{Compilation}
 use Rattle.compiled_files.specs.Files.{IsFileOf}
+use Rattle.lay_compile.specs.LineTexts.PlaceTexts.{IsPlaceText}
 use Rattle.lay_compile.specs.ProgramFiles.Outside.{Outside}
-use Rattle.lay_compile.specs.ProgramFiles.Reading.{WereSo}
+use Rattle.lay_commands.specs.Profiles.{WereGiven}
+use Rattle.lay_commands.specs.declared.compiling.Made.{Made}
 
--- the report's first line
-abbrev pub report : List ℕ
-report = codes "layc report 1" ++ 10 ∷ []
+-- ---- which programs are compiled
 
--- ---- the files at entry
+-- the record lies anew
+abbrev pub changes : Decision → Bool
+changes (Refused v) = false
+changes decision = true
 
--- the files under the names were a program of which this holds
-abbrev pub WereProgram : Option Contents → (names : List (List ℕ)) → (ProgramData → Type 0) → Type 0
-WereProgram files names P = WereSo files names (λ read. (p : ProgramData) × IsProgramOf read p × P p)
+abbrev pub is_changed : List RecordPlan → Bool
+is_changed plans = list_any (λ r. changes r.decision) plans
 
--- a program that has a record is compiled only as it is written
-abbrev pub IsBuilt : Compilation → ProgramData → Type 0
-IsBuilt c p = (c.is_plain ≡ true) ⊎ (p.records ≡ [])
+-- as it is written, or where each record keeps its layout
+abbrev pub IsBuilt : Compilation → ProgramData → Option Counts → Type 0
+IsBuilt c p counts = (c.is_plain ≡ true) ⊎ ((planned : Planned) × IsPlanned counts p planned × (is_changed planned.plan.records ≡ false))
 
-abbrev pub IsNotBuilt : Compilation → ProgramData → Type 0
-IsNotBuilt c p = (c.is_plain ≡ false) × (p.records ≢ [])
+abbrev pub IsNotBuilt : Compilation → ProgramData → Option Counts → Type 0
+IsNotBuilt c p counts = (c.is_plain ≡ false) × ((planned : Planned) × IsPlanned counts p planned × (is_changed planned.plan.records ≡ true))
+
+-- ---- the report
+
+-- the text of the place of the record's violation, if it has one
+abbrev pub IsTextFor : List File → Decision → (text : List ℕ) → Type 0
+IsTextFor files (Refused v) text = IsPlaceText files v.place text
+IsTextFor files decision text = text ≡ []
+
+-- ... of each record
+abbrev pub AreTextsFor : List File → List RecordPlan → (texts : List (List ℕ)) → Type 0
+AreTextsFor files [] texts = texts ≡ []
+AreTextsFor files (r ∷ more) texts =
+    (text : List ℕ) × (rest : List (List ℕ)) × (texts ≡ text ∷ rest) × IsTextFor files r.decision text × AreTextsFor files more rest
+
+-- of records as they are declared, or by a plan
+abbrev pub Reports : Option Planned → List File → ProgramData → (text : List ℕ) → Type 0
+Reports None files p text = IsReport p.records None [] text
+Reports (Some planned) files p text =
+    (places : List (List ℕ)) × AreTextsFor files planned.plan.records places × IsReport p.records (Some planned) places text
+
+-- what is reported by: nothing where the program is compiled as it is written, else its plan
+abbrev pub IsPlanFor : (is_plain : Bool) → Option Counts → ProgramData → Option Planned → Type 0
+IsPlanFor true counts p None = ⊤
+IsPlanFor false counts p (Some planned) = IsPlanned counts p planned
+IsPlanFor is_plain counts p _ = ⊥
+
+abbrev pub IsReportOf : (is_plain : Bool) → List File → ProgramData → Option Counts → (text : List ℕ) → Type 0
+IsReportOf is_plain files p counts text = (planned : Option Planned) × IsPlanFor is_plain counts p planned × Reports planned files p text
 
 -- ---- what is left
 
@@ -35,22 +75,22 @@ IsCompiled c p file = (elf : List ℕ) × (file ≡ Some elf) × IsFileOf p c.he
 abbrev pub IsPartlyCompiled : Compilation → ProgramData → (was file : Option (List ℕ)) → Type 0
 IsPartlyCompiled c p was file = (file ≡ was) ⊎ ((elf : List ℕ) × IsFileOf p c.heap c.stack elf × ((k : ℕ) × (file ≡ Some (take k elf))))
 
--- The program of the files, as they were at entry, is compiled to OUT. No other file changed, and the input was not read.
-pub record IsCompiledTo (c : Compilation) (before now : Outside) : Type 0 where
-  pub program : WereProgram before.files c.files (λ p. IsBuilt c p × IfKnown now.files c.out (IsCompiled c p))
+-- What was given at entry is compiled to OUT, and this is so of its report. No other file changed, and the input was not read.
+pub record IsCompiledTo (c : Compilation) (before now : Outside) (Reported : (text : List ℕ) → Type 0) : Type 0 where
+  pub program : WereGiven before.files c (λ read p counts. IsBuilt c p counts × IfKnown now.files c.out (IsCompiled c p)
+      × ((text : List ℕ) × IsReportOf c.is_plain read p counts text × Reported text))
   pub others : FilesKeepBut c.out before.files now.files
   pub unread : now.input ≡ before.input
 
--- and the report was written
-pub record IsDone (c : Compilation) (before now : Outside) : Type 0 where
-  pub compiled : IsCompiledTo c before now
-  pub reported : Appends before.out.bytes now.out.bytes report
+-- the report was written
+abbrev pub IsDone : Compilation → (before now : Outside) → Type 0
+IsDone c before now = IsCompiledTo c before now (λ text. Appends before.out.bytes now.out.bytes text)
 
 -- The host failed to write OUT: nothing is reported.
 pub record HostFailed (c : Compilation) (before now : Outside) : Type 0 where
   pub cause : Rose (before.failed_writes c.out) (now.failed_writes c.out)
-  pub partly : WereProgram before.files c.files
-      (λ p. IsBuilt c p × IfKnown before.files c.out (λ was. IfKnown now.files c.out (IsPartlyCompiled c p was)))
+  pub partly : WereGiven before.files c
+      (λ read p counts. IsBuilt c p counts × IfKnown before.files c.out (λ was. IfKnown now.files c.out (IsPartlyCompiled c p was)))
   pub others : FilesKeepBut c.out before.files now.files
   pub unreported : now.out ≡ before.out
   pub unread : now.input ≡ before.input
@@ -58,6 +98,26 @@ pub record HostFailed (c : Compilation) (before now : Outside) : Type 0 where
 -- The report could not be written, or only a first part: the file is whole, and no write of the host failed.
 pub record OutFailed (c : Compilation) (before now : Outside) : Type 0 where
   pub cause : Rose before.out.faults now.out.faults
-  pub compiled : IsCompiledTo c before now
+  pub compiled : IsCompiledTo c before now (λ text. (k : ℕ) × Appends before.out.bytes now.out.bytes (take k text))
   pub written : (name : List ℕ) → now.failed_writes name ≡ before.failed_writes name
-  pub partly : (k : ℕ) × Appends before.out.bytes now.out.bytes (take k report)
+
+-- ---- by the answer; want of memory says nothing
+
+-- the plan, if it is asked for, lays out no record anew
+abbrev pub KeepsAll : Option Planned → Type 0
+KeepsAll None = ⊤
+KeepsAll (Some planned) = is_changed planned.plan.records ≡ false
+
+abbrev pub PlanGives : (given : List ℕ) → Compilation → ProgramData → Option Counts → Result (Option Planned) Refusal → Type 0
+PlanGives given c p counts (Ok planned) = IsPlanFor c.is_plain counts p planned × KeepsAll planned
+PlanGives given c p counts (Err (R.NotBuilt name)) = (name ≡ given) × IsNotBuilt c p counts
+PlanGives given c p counts (Err R.Memory) = Unit {0}
+PlanGives given c p counts (Err _) = ⊥
+
+-- the file and the report are made, or the program is not compiled yet; a refusal has the name that is given
+abbrev pub MadeGives : (given : List ℕ) → Compilation → List File → ProgramData → Option Counts → Result Made Refusal → Type 0
+MadeGives given c files p counts (Ok made) =
+    IsBuilt c p counts × IsFileOf p c.heap c.stack made.elf.items × IsReportOf c.is_plain files p counts made.report.items
+MadeGives given c files p counts (Err (R.NotBuilt name)) = (name ≡ given) × IsNotBuilt c p counts
+MadeGives given c files p counts (Err R.Memory) = Unit {0}
+MadeGives given c files p counts (Err _) = ⊥

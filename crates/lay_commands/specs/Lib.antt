@@ -1,5 +1,6 @@
 pub mod CommandLine
 pub mod Words
+pub mod Profiles
 pub mod Compiling
 pub mod Interpreting
 pub mod Running

@@ -3,16 +3,15 @@ use Rattle.std.specs.Prelude.{◌≡◌, ℕ, List, take, slice_get, Option, Som
 use Rattle.lay_base.specs.Known.{Contents, Rose, IfKnown, Appends}
 use Rattle.refusals.specs.declared.refusal.Refusal.{Refusal}
 use Rattle.refusals.specs.declared.refusal.Refusal.TheVariants as R
-use Rattle.c_typed.specs.Programs.{ProgramData}
 use Rattle.rv_isa.specs.declared.image.Image.{Image}
 use Rattle.rv_isa.specs.Step.{Exits, Trap, Break}
 use Rattle.elf32.specs.Loaded.{loaded}
 use Rattle.rv_machine.specs.declared.machine.MachineEnd.{MachineEnd}
 use Rattle.rv_machine.specs.declared.machine.MachineEnd.TheVariants as E
 use Rattle.lay_commands.specs.Words.{Compilation}
-use Rattle.lay_compile.specs.ProgramFiles.FrontEnd.{FilesAreRefused}
 use Rattle.lay_compile.specs.ProgramFiles.Outside.{Outside, IsUntouched, HoldsLonger}
-use Rattle.lay_commands.specs.Compiling.{WereProgram, IsBuilt, IsNotBuilt, IsDone, HostFailed, OutFailed, report}
+use Rattle.lay_commands.specs.Compiling.{IsNotBuilt, IsDone, HostFailed, OutFailed}
+use Rattle.lay_commands.specs.Profiles.{IsRefused, WereGiven}
 use Rattle.lay_commands.specs.Running.{elf_limit, HoldsElf, Ended, WouldGoOn, Stopped, StoppedInRead, StoppedInWrite}
 
 -- ---- a file, of either command that writes one
@@ -27,26 +26,20 @@ WriteGives writes_before writes_now before now name bytes (Err _) = ⊥
 
 -- ---- compile
 
--- a program is compiled, or is not yet; a refusal has the name that is given
-abbrev pub BuildGives : (given : List ℕ) → Compilation → ProgramData → Result (Unit {0}) Refusal → Type 0
-BuildGives given c p (Ok done) = IsBuilt c p
-BuildGives given c p (Err (R.NotBuilt name)) = (name ≡ given) × IsNotBuilt c p
-BuildGives given c p (Err R.Memory) = Unit {0}
-BuildGives given c p (Err _) = ⊥
-
 -- the report is written
-abbrev pub ReportGives : (faults_before faults_now : ℕ) → (before now : Option (List ℕ)) → Result (Unit {0}) Refusal → Type 0
-ReportGives faults_before faults_now before now (Ok done) = Appends before now report
-ReportGives faults_before faults_now before now (Err R.WriteFault) = Rose faults_before faults_now × ((k : ℕ) × Appends before now (take k report))
-ReportGives faults_before faults_now before now (Err _) = ⊥
+abbrev pub ReportGives : (faults_before faults_now : ℕ) → (before now : Option (List ℕ)) → (report : List ℕ) → Result (Unit {0}) Refusal → Type 0
+ReportGives faults_before faults_now before now report (Ok done) = Appends before now report
+ReportGives faults_before faults_now before now report (Err R.WriteFault) =
+    Rose faults_before faults_now × ((k : ℕ) × Appends before now (take k report))
+ReportGives faults_before faults_now before now report (Err _) = ⊥
 
 -- all stages, one after the other
 abbrev pub CompileGives : Compilation → (before now : Outside) → Result (Unit {0}) Refusal → Type 0
 CompileGives c before now (Ok done) = IsDone c before now
 CompileGives c before now (Err (R.NotBuilt name)) =
-    (slice_get c.files 0 ≡ Some name) × WereProgram before.files c.files (IsNotBuilt c) × IsUntouched before now
+    (slice_get c.files 0 ≡ Some name) × WereGiven before.files c (λ read p counts. IsNotBuilt c p counts) × IsUntouched before now
 CompileGives c before now (Err R.WriteFault) = HostFailed c before now ⊎ OutFailed c before now
-CompileGives c before now (Err refusal) = FilesAreRefused c.files before now refusal
+CompileGives c before now (Err refusal) = IsRefused c before now refusal
 
 -- ---- run
 

@@ -1,6 +1,6 @@
 -- What the words on the command line ask for.
 use Rattle.std.specs.Prelude.{ℕ, ◌^◌, ◌≤◌, ◌&&◌, nat_le, Bool, false, List, [], ◌∷◌, map, length, codes, Option, Some, None, ⊤}
-use Rattle.std.specs.Prelude.{option_and_then, if◌then◌else◌}
+use Rattle.std.specs.Prelude.{option_and_then, option_map, if◌then◌else◌}
 use Rattle.std.specs.List.{list_all}
 use Rattle.std.specs.Option.{option_map_or}
 use Rattle.std.specs.Char.{is_ascii_digit}
@@ -48,9 +48,10 @@ number_in most word =
 
 -- ---- commands
 
--- what `compile` is asked for: the name OUT, MiB of heap and of stack, and the names of the files
+-- what `compile` is asked for: the name OUT, the name of a profile if one is given, MiB of heap and of stack, and the names of the files
 pub record Compilation : Type 0 where
   pub out : List ℕ
+  pub profile : Option (List ℕ)
   pub is_plain : Bool
   pub heap : ℕ
   pub stack : ℕ
@@ -101,14 +102,14 @@ abbrev pub files_of : List Row → Option (List Text)
 files_of rows = option_and_then some_files (all_of (codes "FILE") rows)
 
 -- all of these have to be there
-abbrev pub compile_with : (out : Option Text) (files : Option (List Text)) (heap stack : Option ℕ) (is_plain : Bool) → Option Command
-compile_with (Some out) (Some files) (Some heap) (Some stack) is_plain =
-    Some (Compile (record { out = out; is_plain = is_plain; heap = heap; stack = stack; files = files }))
-compile_with _ _ _ _ is_plain = None
+abbrev pub compile_with : (out : Option Text) (files : Option (List Text)) (heap stack : Option ℕ) (profile : Option Text) (is_plain : Bool) → Option Command
+compile_with (Some out) (Some files) (Some heap) (Some stack) profile is_plain =
+    Some (Compile (record { out = out; profile = profile; is_plain = is_plain; heap = heap; stack = stack; files = files }))
+compile_with _ _ _ _ profile is_plain = None
 
 abbrev pub compile_of : List Row → Option Command
 compile_of rows = compile_with (first_of (codes "OUT") rows) (files_of rows) (number_of (codes "heap") default_heap most_heap rows)
-    (number_of (codes "stack") default_stack most_stack rows) (is_given (codes "plain") rows)
+    (number_of (codes "stack") default_stack most_stack rows) (first_of (codes "profile") rows) (is_given (codes "plain") rows)
 
 abbrev pub profile_with : (out : Option Text) (files : Option (List Text)) (turns : Option ℕ) → Option Command
 profile_with (Some out) (Some files) (Some turns) = Some (Profile (record { out = out; turns = turns; files = files }))
@@ -150,6 +151,7 @@ command_of words = option_and_then command_found (matches_in words)
 abbrev pub compilation_of : CompileRequest → Compilation
 compilation_of request = record {
   out = request.out.now;
+  profile = option_map (λ name. name.now) request.profile;
   is_plain = request.plain;
   heap = request.heap;
   stack = request.stack;

@@ -56,6 +56,7 @@ fn compile_command<'a>(alloc: Global) -> Result<Command<'a>, AllocError>
 {
     let args = vec![in alloc;
         out_option(alloc),
+        long_option(alloc, "profile"),
         plain_flag(alloc),
         long_option(alloc, "heap"),
         long_option(alloc, "stack"),

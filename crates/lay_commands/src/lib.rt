@@ -12,6 +12,7 @@
 
 mod command_line;
 mod compiling;
+mod inputs;
 mod interpreting;
 mod numbers;
 mod outcome;

@@ -21,6 +21,8 @@ use std::alloc::Global;
 #[derive(Clone, Copy)]
 pub struct CompileRequest<'b, 'a> {
     pub out: &'a str,
+    /// The name of a profile by which fields are weighed.
+    pub profile: Option<&'a str>,
     /// Whether each record is to stay as it is declared.
     pub plain: bool,
     /// MiB of heap, 1 to 1024.
@@ -129,6 +131,7 @@ fn compile_request<'b, 'a>(found: &'b ArgMatches<'a>) -> Option<CompileRequest<'
     let stack = number_of(found, "stack", DEFAULT_STACK, MOST_STACK)?;
     Some(CompileRequest {
         out,
+        profile: found.get_str("profile"),
         plain: is_given(found, "plain"),
         heap: heap as u32,
         stack: stack as u32,

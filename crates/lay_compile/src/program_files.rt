@@ -8,4 +8,4 @@ mod source_program;
 
 pub use front_end::{PlaceTexts, check_files, texts_of};
 pub use reading::{bytes_of, check_number, read_files};
-pub use source_program::{SourceProgram, program_in};
+pub use source_program::{SourceProgram, program_in, with_program};

@@ -96,7 +96,7 @@ stale_line name stale = line
 -- how the program is called
 unfoldable pub usage : List ℕ
 usage = concat
-    (codes "usage: layc compile -o OUT [--plain] [--heap MIB] [--stack MIB] FILE...\n"
+    (codes "usage: layc compile -o OUT [--profile P] [--plain] [--heap MIB] [--stack MIB] FILE...\n"
     ∷ codes "       layc profile -o P [--turns N] FILE...\n"
     ∷ codes "       layc interp [--turns N] FILE...\n"
     ∷ codes "       layc run [--steps N] ELF\n" ∷ [])

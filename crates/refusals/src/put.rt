@@ -205,7 +205,7 @@ fn put_usage<E: Sink>(err: &mut E) -> Result<(), SinkFault>
     put_all(
         err,
         &[
-            b"usage: layc compile -o OUT [--plain] [--heap MIB] [--stack MIB] FILE...\n",
+            b"usage: layc compile -o OUT [--profile P] [--plain] [--heap MIB] [--stack MIB] FILE...\n",
             b"       layc profile -o P [--turns N] FILE...\n",
             b"       layc interp [--turns N] FILE...\n",
             b"       layc run [--steps N] ELF\n",

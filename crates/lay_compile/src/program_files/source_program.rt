@@ -20,7 +20,7 @@ pub struct SourceProgram {
 }
 
 /// Files with the program that they are. A refusal leaves the texts of its places.
-fn with_program(
+pub fn with_program(
     alloc: Global,
     files: Files,
     texts: &mut PlaceTexts,
