@@ -2,7 +2,7 @@
 #![tactic(auto)]
 
 mod records;
-mod report;
+mod reporting;
 mod text;
 
-pub use report::report;
+pub use reporting::report;
