@@ -1,4 +1,3 @@
 pub mod Texts
 pub mod Reports
 pub mod Writes
-mod Examples

@@ -1,5 +1,5 @@
 -- The report of a program: what becomes of each of its records (own).
-use Rattle.std.specs.Prelude.{◌≡◌, ℕ, ◌+◌, Bool, List, [], ◌∷◌, ◌++◌, codes, flat_map, length, Option, Some, None, slice_get, unwrap_or}
+use Rattle.std.specs.Prelude.{◌≡◌, ℕ, ◌+◌, List, [], ◌∷◌, ◌++◌, codes, flat_map, length, Option, Some, None, slice_get, unwrap_or}
 use Rattle.std.specs.List.Sorted.{IsPermutation, IsSortedBy}
 use Rattle.c_types.specs.Types.{Record, structure}
 use Rattle.c_types.specs.Layouts.{size_of}

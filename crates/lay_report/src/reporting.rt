@@ -1,10 +1,11 @@
 //! The report of a program.
 
-ghost use Rattle.std.specs.Prelude.{◌≡◌, ◌<◌, ◌^◌, [], IfOk, flat_map, length, slice_get, unwrap_or};
+ghost use Rattle.std.specs.Prelude.{◌≡◌, ◌≤◌, ◌<◌, ◌^◌, [], IfOk, flat_map, length, slice_get, unwrap_or};
 ghost use Rattle.std.specs.Option.{option_copied};
 ghost use Rattle.c_types.specs.Layouts.{size_of};
 ghost use Rattle.c_types.specs.Types.{structure};
 ghost use Rattle.c_types.specs.Views.{record_of, records_of};
+ghost use Rattle.layout_plan.specs.Planning.{HaveFewFields};
 ghost use Rattle.lay_report.specs.Reports.{IsReport, IsReportOrder, by_plan, defined_from, text_at};
 ghost use Rattle.lay_report.specs.Writes.{Writes};
 
@@ -17,8 +18,8 @@ use lay_base::{Bytes, NoMemory};
 use layout_plan::Planned;
 use std::alloc::Global;
 
-fn defined(alloc: Global, records: &[Record]) -> Result<Vec<Defined>, NoMemory>
-    requires { length records.now < 2 ^ 32 }
+fn defined(alloc: Global, records: &[Record], count: u32) -> Result<Vec<Defined>, NoMemory>
+    requires { length records.now ≡ count }
     ensures { IfOk result (λ all. all.items ≡ defined_from 0 (records_of records.now)) }
 {
     let mut all = Vec::new(alloc);
@@ -31,15 +32,15 @@ fn defined(alloc: Global, records: &[Record]) -> Result<Vec<Defined>, NoMemory>
             return Err(NoMemory);
         }
     }
+    let _ = count;
     Ok(all)
 }
 
 /// The records in the order of the files and places of their first definitions.
-fn report_order(alloc: Global, records: &[Record]) -> Result<Vec<Defined>, NoMemory>
-    requires { length records.now < 2 ^ 32 }
+fn report_order(alloc: Global, records: &Records) -> Result<Vec<Defined>, NoMemory>
     ensures { IfOk result (λ order. IsReportOrder (records_of records.now) order.items) }
 {
-    let mut order = defined(alloc, records)?;
+    let mut order = defined(alloc, records.as_slice(), records.len())?;
     order.sort_unstable_by_key(|r| (r.place.file, r.place.at, r.number));
     Ok(order)
 }
@@ -72,6 +73,7 @@ fn put_by_plan(
     planned: &Planned,
     places: &[Bytes],
 )
+    requires { length r.now.fields ≤ 64 }
     ensures { Writes text.old text.new (by_plan size number (record_of r.now) planned.now places.now (slice_get planned.now.plan.records number)) }
 {
     let Some(plan) = planned.plan.records.get(number as usize) else {
@@ -98,6 +100,7 @@ fn put_record(
     planned: Option<&Planned>,
     places: &[Bytes],
 )
+    requires { HaveFewFields (records_of records.now) }
     ensures { Writes text.old text.new (text_at (records_of records.now) (option_copied planned.entry) places.now number) }
 {
     if number >= records.len() {
@@ -119,6 +122,7 @@ fn put_records(
     planned: Option<&Planned>,
     places: &[Bytes],
 )
+    requires { HaveFewFields (records_of records.now) }
     ensures { Writes text.old text.new (flat_map (λ d. text_at (records_of records.now) (option_copied planned.entry) places.now d.number) order.now) }
 {
     for d in order {
@@ -134,9 +138,10 @@ pub fn report(
     planned: Option<&Planned>,
     places: &[Bytes],
 ) -> Result<Vec<u8>, NoMemory>
+    requires { HaveFewFields (records_of p.now.records) }
     ensures { IfOk result (λ text. IsReport (records_of p.now.records) (option_copied planned.entry) places.now text.items) }
 {
-    let order = report_order(alloc, p.records.as_slice())?;
+    let order = report_order(alloc, &p.records)?;
     let mut text = Text::new(alloc);
     put_line(&mut text, &[b"layc report 1"]);
     put_records(
