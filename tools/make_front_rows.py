@@ -1,6 +1,6 @@
 #!/usr/bin/env python3
-"""Makes what the program `crates/front_rows` is run on, and what it has to print, from `checker_rows/*.txt`, `profile_rows.txt`, `verdict_rows.txt`
-and `code_rows.txt`.
+"""Makes what the program `crates/front_rows` is run on, and what it has to print, from `checker_rows/*.txt`, `profile_rows.txt`, `verdict_rows.txt`,
+`plan_rows.txt` and `code_rows.txt`.
 
 With `--check` it writes nothing, and the exit status is 1 where a file is another than the rows have it."""
 
@@ -15,6 +15,7 @@ from checking import HERE
 # Rows as they stand on the input, each with what has to be printed after its name below it, after `=`.
 PROFILE_ROWS = os.path.join(HERE, "tools", "profile_rows.txt")
 CODE_ROWS = os.path.join(HERE, "tools", "code_rows.txt")
+PLAN_ROWS = os.path.join(HERE, "tools", "plan_rows.txt")
 # Rows on records, as that file says.
 VERDICT_ROWS = os.path.join(HERE, "tools", "verdict_rows.txt")
 DECLARATIONS = (
@@ -87,9 +88,9 @@ def of_standing_rows(path):
         yield lines.split("\n")[0].split(" ")[1], lines, answer
 
 
-def of_profile_rows():
-    """The same of each row on profiles. The last line of a text below `=` ends too."""
-    for name, lines, answer in of_standing_rows(PROFILE_ROWS):
+def of_text_rows(path):
+    """The same of each row on profiles or plans. The last line of a text below `=` ends too."""
+    for name, lines, answer in of_standing_rows(path):
         end = "\n" if answer.startswith("\n") else ""
         yield name, lines, answer + end
 
@@ -136,7 +137,7 @@ def of_verdict_rows():
 
 
 def main():
-    rows = [*of_checker_rows(), *of_profile_rows(), *of_verdict_rows(), *of_standing_rows(CODE_ROWS)]
+    rows = [*of_checker_rows(), *of_text_rows(PROFILE_ROWS), *of_verdict_rows(), *of_text_rows(PLAN_ROWS), *of_standing_rows(CODE_ROWS)]
     assert len({name for name, _, _ in rows}) == len(rows), "two rows have one name"
     return row_files.main("front_rows", [f"{block}\n" for _, block, _ in rows], [f"{name}:{answer}\n" for name, _, answer in rows])
 

@@ -3,6 +3,7 @@
 ghost use Rattle.std.specs.Prelude.{◌≤◌, All, IsTrue, length};
 
 use crate::faults::{Spots, put_fault};
+use crate::plans::put_report;
 use crate::program_text::put_program;
 use crate::routine_text::put_code;
 use crate::row::{Question, Row};
@@ -22,7 +23,9 @@ pub fn are_within_bounds(files: &[File]) -> bool
     files.len() <= 64 && files.iter().all(|file| file.bytes.len() <= 4_194_304)
 }
 
-fn put_of_program(out: &mut Writer, alloc: Global, row: &Row, files: &[File], program: &Typed) {
+fn put_of_program(out: &mut Writer, alloc: Global, row: &Row, files: &[File], program: &Typed)
+    requires { All (λ file. length file.bytes ≤ 4194304) files.now }
+{
     let places = row.places.as_slice();
     match row.question {
         Question::Check => out.word("accepted"),
@@ -31,6 +34,7 @@ fn put_of_program(out: &mut Writer, alloc: Global, row: &Row, files: &[File], pr
         Question::Code => put_code(out, alloc, program),
         Question::Judge => put_verdicts(out, alloc, Spots { files, places }, program),
         Question::Weigh => put_weights(out, alloc, program),
+        Question::Plan => put_report(out, alloc, files, program, None),
     }
 }
 

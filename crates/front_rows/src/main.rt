@@ -1,9 +1,9 @@
 //! Reads rows of C files and of profiles, and prints what is made of each, to be compared with what was written down by
 //! hand.
 //!
-//! A row is a block of lines: `check NAME`, `link NAME`, `show NAME`, `code NAME`, `judge NAME` or `weigh NAME`; `places 5 9` where a
-//! fault may stand at either byte; and its files, as `row_lines` has them. Or it is `profile NAME`, `fronts NAME` or
-//! `fits NAME`, with files of which the last is a profile. For each row the program prints `NAME: ` and what became of its files.
+//! A row is a block of lines: `check NAME`, `link NAME`, `show NAME`, `code NAME`, `judge NAME`, `weigh NAME` or `plan NAME`; `places 5 9` where a
+//! fault may stand at either byte; and its files, as `row_lines` has them. Or it is `profile NAME`, `fronts NAME`, `fits NAME` or `plan_by NAME`, with
+//! files of which the last is a profile. For each row the program prints `NAME: ` and what became of its files.
 //! A block that is no row is answered with that.
 #![tactic(auto)]
 
@@ -12,6 +12,7 @@ mod answers;
 mod faults;
 mod operand_text;
 mod operator_text;
+mod plans;
 mod profiles;
 mod program_text;
 mod routine_text;

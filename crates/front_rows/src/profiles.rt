@@ -6,8 +6,9 @@ ghost use Rattle.c_typed.specs.Programs.{data_of};
 
 use crate::answers::are_within_bounds;
 use crate::faults::{Spots, put_fault};
+use crate::plans::put_report;
 use c_typed::{Counts, Function, Typed, loops_within, profile_order};
-use lay_base::{Files, NoMemory, Stale};
+use lay_base::{File, Files, NoMemory, Stale};
 use lay_compile::front;
 use profile_file::{ProfileFault, fits, read, write};
 use row_lines::{Writer, head_of, is_comment};
@@ -29,6 +30,8 @@ pub enum Question {
     Fronts,
     /// Whether it fits the program of the files before it.
     Fit,
+    /// How the records of that program are laid out anew by it.
+    Plan,
 }
 
 /// What the first line of a row asks of a profile, and the name of the row.
@@ -38,6 +41,7 @@ fn question_of(line: &str) -> Option<(Question, &str)> {
         "profile" => Some((Question::Text, name)),
         "fronts" => Some((Question::Fronts, name)),
         "fits" => Some((Question::Fit, name)),
+        "plan_by" => Some((Question::Plan, name)),
         _ => None,
     }
 }
@@ -132,28 +136,39 @@ fn put_fit(out: &mut Writer, alloc: Global, counts: &Counts, program: &Typed) {
     }
 }
 
-fn put_fit_of(out: &mut Writer, alloc: Global, text: &[u8], program: &Typed)
-    requires { length text.now ≤ 67108864 }
+fn put_by(
+    out: &mut Writer,
+    alloc: Global,
+    question: Question,
+    counts: &Counts,
+    files: &[File],
+    program: &Typed,
+)
+    requires { All (λ file. length file.bytes ≤ 4194304) files.now }
 {
-    match read(alloc, text) {
-        Ok(counts) => put_fit(out, alloc, &counts, program),
-        Err(fault) => put_refusal(out, &fault),
+    match question {
+        Question::Plan => put_report(out, alloc, files, program, Some(counts)),
+        _ => put_fit(out, alloc, counts, program),
     }
 }
 
-/// Whether a profile fits the program of some files.
-fn put_fit_of_files(out: &mut Writer, alloc: Global, text: &[u8], files: &Files)
+/// What becomes of the program of some files by a profile.
+fn put_of_program(out: &mut Writer, alloc: Global, question: Question, text: &[u8], files: &Files)
     requires { length text.now ≤ 67108864 }
 {
     if !are_within_bounds(files.as_slice()) {
         return out.word("too many files or bytes");
     }
+    let files_of = files.as_slice();
     match front(alloc, files) {
-        Ok(program) => put_fit_of(out, alloc, text, &program),
+        Ok(program) => match read(alloc, text) {
+            Ok(counts) => put_by(out, alloc, question, &counts, files_of, &program),
+            Err(fault) => put_refusal(out, &fault),
+        },
         Err(fault) => put_fault(
             out,
             Spots {
-                files: files.as_slice(),
+                files: files_of,
                 places: &[],
             },
             &fault,
@@ -172,7 +187,7 @@ fn put_of_files(out: &mut Writer, alloc: Global, question: Question, mut files: 
     match question {
         Question::Text => put_text(out, alloc, text),
         Question::Fronts => put_fronts(out, alloc, text),
-        Question::Fit => put_fit_of_files(out, alloc, text, &files),
+        Question::Fit | Question::Plan => put_of_program(out, alloc, question, text, &files),
     }
 }
 

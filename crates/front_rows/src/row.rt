@@ -18,6 +18,8 @@ pub enum Question {
     Judge,
     /// How often the fields of its records are accessed.
     Weigh,
+    /// How its records are laid out anew.
+    Plan,
 }
 
 /// What a row says beside its files. A fault may stand at any of its places, where it has some.
@@ -36,6 +38,7 @@ fn question_of(word: &str) -> Result<Question, RowFault> {
         "code" => Ok(Question::Code),
         "judge" => Ok(Question::Judge),
         "weigh" => Ok(Question::Weigh),
+        "plan" => Ok(Question::Plan),
         _ => Err(RowFault::NoRow),
     }
 }
