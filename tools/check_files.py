@@ -55,7 +55,7 @@ def compiled(folder, names):
     if os.path.exists(path):
         os.remove(path)
     done = checking.run([LAYC, "compile", "-o", path, "--plain", *names], cwd=folder)
-    if done.returncode != 0 or done.stdout != b"layc report 1\n":
+    if done.returncode != 0 or not done.stdout.startswith(b"layc report 1\n"):
         return None
     os.chmod(path, 0o755)
     return path

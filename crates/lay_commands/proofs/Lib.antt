@@ -3,6 +3,7 @@ pub mod Found
 pub mod Spelled
 pub mod Files
 pub mod NoPlaces
+pub mod Given
 pub mod Compiled
 pub mod Interpreted
 pub mod Refused

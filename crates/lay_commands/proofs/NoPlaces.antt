@@ -2,19 +2,22 @@
 use Rattle.std.proofs.Common.{ℕ, List, Option}
 use Rattle.std.specs.Prelude.{Result, Ok, Err, IfErr}
 use Rattle.lay_base.specs.Known.{Contents}
+use Rattle.lay_base.specs.declared.place.File.{File}
+use Rattle.c_typed.specs.declared.run_counts.counts.Counts.{Counts}
 use Rattle.c_typed.specs.Programs.{ProgramData}
 use Rattle.lay_commands.specs.Words.{Compilation}
 use Rattle.refusals.specs.declared.refusal.Refusal.{Refusal}
 use Rattle.refusals.specs.declared.refusal.Refusal.TheVariants as R
 use Rattle.lay_compile.specs.declared.program_files.front_end.PlaceTexts.{PlaceTexts}
 use Rattle.lay_compile.specs.ProgramFiles.FrontEnd.{HasTexts}
-use Rattle.lay_commands.specs.Stages.{BuildGives, WriteGives, ReportGives}
+use Rattle.lay_commands.specs.Compiling.{MadeGives}
+use Rattle.lay_commands.specs.Stages.{WriteGives, ReportGives}
 
-pub build_texts : (f : Option Contents) (names : List (List ℕ)) (texts : PlaceTexts) (given : List ℕ) (c : Compilation) (p : ProgramData) (refusal : Refusal)
-    → BuildGives given c p (Err refusal) → HasTexts f names texts refusal
-build_texts f names texts given c p (R.NotBuilt name) gives = λ place. cc
-build_texts f names texts given c p R.Memory gives = λ place. cc
-build_texts f names texts given c p _ gives = absurd gives
+pub made_texts : (f : Option Contents) (names : List (List ℕ)) (texts : PlaceTexts) (given : List ℕ) (c : Compilation) (files : List File) (p : ProgramData)
+    (counts : Option Counts) (refusal : Refusal) → MadeGives given c files p counts (Err refusal) → HasTexts f names texts refusal
+made_texts f names texts given c files p counts (R.NotBuilt name) gives = λ place. cc
+made_texts f names texts given c files p counts R.Memory gives = λ place. cc
+made_texts f names texts given c files p counts _ gives = absurd gives
 
 pub write_texts : (f : Option Contents) (names : List (List ℕ)) (texts : PlaceTexts) (writes_before writes_now : ℕ) (before now : Option Contents)
     (out bytes : List ℕ) (refusal : Refusal) → WriteGives writes_before writes_now before now out bytes (Err refusal) → HasTexts f names texts refusal
@@ -23,7 +26,7 @@ write_texts f names texts writes_before writes_now before now out bytes R.Memory
 write_texts f names texts writes_before writes_now before now out bytes _ gives = absurd gives
 
 pub report_texts : (f : Option Contents) (names : List (List ℕ)) (texts : PlaceTexts) (faults_before faults_now : ℕ) (before now : Option (List ℕ))
-    (r : Result (Unit {0}) Refusal) → ReportGives faults_before faults_now before now r → IfErr r (HasTexts f names texts)
-report_texts f names texts faults_before faults_now before now (Ok done) gives = tt
-report_texts f names texts faults_before faults_now before now (Err R.WriteFault) gives = λ place. cc
-report_texts f names texts faults_before faults_now before now (Err _) gives = absurd gives
+    (report : List ℕ) (r : Result (Unit {0}) Refusal) → ReportGives faults_before faults_now before now report r → IfErr r (HasTexts f names texts)
+report_texts f names texts faults_before faults_now before now report (Ok done) gives = tt
+report_texts f names texts faults_before faults_now before now report (Err R.WriteFault) gives = λ place. cc
+report_texts f names texts faults_before faults_now before now report (Err _) gives = absurd gives

@@ -24,6 +24,7 @@ use Rattle.lay_compile.specs.RefusalPlaces.Texts.{AreOfPlaces, NamedTextsAreOfPl
 use Rattle.lay_compile.proofs.RefusalPlaces.FilesOfNames.{one_list}
 use Rattle.lay_commands.specs.Answers.{CommandGives, OutcomeGives, IsOfSource, IsTold, PlacesHave, PlacesStand, source_files}
 use Rattle.lay_commands.specs.Interpreting.{Ran, Tells, TellsNoProfile, ProfileGives, streams_of}
+use Rattle.lay_commands.specs.Profiles.{ProfileIsRefused}
 use Rattle.lay_commands.specs.Stages.{CompileGives}
 use Rattle.lay_commands.specs.declared.outcome.Outcome.TheVariants.{Refused}
 use Rattle.lay_commands.proofs.Interpreted.{tells_source}
@@ -101,11 +102,19 @@ module _ (of_places : NamedTextsAreOfPlaces) (steps : UndefinedStepsStandInFiles
 
   -- ---- commands
 
+  by_given : (c : Compilation) (before now : Outside) (refusal : Refusal) → ProfileIsRefused c before now refusal → Texts c.files refusal → Stand c.files refusal
+  by_given c before now (R.FileFault name) gives t = (t.0, t.1, (tt, tt))
+  by_given c before now (R.TooLong name) gives t = (t.0, t.1, (tt, tt))
+  by_given c before now (R.BadProfile line) gives t = (t.0, t.1, (tt, tt))
+  by_given c before now (R.Stale function difference) gives t = (t.0, t.1, (tt, tt))
+  by_given c before now _ gives t = absurd gives.2
+
   by_compile : (c : Compilation) (before now : Outside) (refusal : Refusal) → before.files ≡ Some contents → CompileGives c before now (Err refusal)
       → Texts c.files refusal → Stand c.files refusal
   by_compile c before now (R.NotBuilt name) known gives t = (t.0, t.1, (tt, tt))
   by_compile c before now R.WriteFault known gives t = (t.0, t.1, (tt, tt))
-  by_compile c before now refusal known gives t = front c.files before now refusal known gives t
+  by_compile c before now refusal known (inl gives) t = front c.files before now refusal known gives t
+  by_compile c before now refusal known (inr gives) t = by_given c before now refusal gives t
 
   memory_has : (refusal : Refusal) → refusal ≡ R.Memory → HasPlace refusal → ⊥
   memory_has refusal e has = let none : HasPlace R.Memory = subst HasPlace e has in cc

@@ -24,7 +24,7 @@ pub use laws::{faults_stand_in_files, programs_are_one};
 pub use line_texts::place_text;
 pub use program_files::{
     PlaceTexts, SourceProgram, bytes_of, check_files, check_number, program_in, read_files,
-    texts_of,
+    texts_of, with_program,
 };
 pub use refusal_places::{named_texts_are_of_places, texts_are_of_places};
 pub use stages::front;

@@ -48,6 +48,7 @@ pub fn check_number(names: &[&str]) -> Result<(), Refusal>
 pub fn read_files<H: Host>(alloc: Global, host: &mut H, names: &[&str]) -> Result<Files, Refusal>
     requires { length names.now ≤ most_files }
     ensures files { FilesKeep (H.files host.old) (H.files host.new) }
+    ensures reads { OnOk result ((name : List ℕ) → H.failed_reads host.new name ≡ H.failed_reads host.old name) }
     ensures writes { OnOk result ((name : List ℕ) → H.failed_writes host.new name ≡ H.failed_writes host.old name) }
     ensures gives { FilesGive (H.failed_reads host.old) (H.failed_reads host.new) (H.files host.old) (map (λ name. name.now) names.now) result }
 {
