@@ -94,7 +94,8 @@ def check_reports(out):
     made = checking.run([LAYC, "profile", "-o", profile, source], cwd=checking.HERE, input=input_of("records.c"))
     check_same("the profile of examples/records.c", made, read(os.path.join(EXAMPLES, "records.expected")))
     check_same("the report by the profile", checking.run([LAYC, "compile", "-o", path, "--profile", profile, source], cwd=checking.HERE), wanted[0])
-    check_same("the run of examples/records.c", checking.run([LAYC, "run", path], input=input_of("records.c")), read(os.path.join(EXAMPLES, "records.expected")))
+    made = checking.run([LAYC, "run", path], input=input_of("records.c"))
+    check_same("the run of examples/records.c", made, read(os.path.join(EXAMPLES, "records.expected")))
     rows = checking.built("front_rows")
     if rows is None:
         print("skipped: the plan of examples/plans.c, for the program of rows is not built")

@@ -14,9 +14,11 @@ ghost use Rattle.lay_commands.specs.Words.{compilation_of};
 
 use crate::words::CompileRequest;
 use c_typed::{Counts, Defined, Typed, profile_order};
-use c_well_typed::programs_have_few_loops;
 use lay_base::{Host, Name};
-use lay_compile::{PlaceTexts, SourceProgram, bytes_of, check_number, read_files, with_program};
+use lay_compile::{
+    PlaceTexts, SourceProgram, bytes_of, check_number, programs_have_few_loops, read_files,
+    with_program,
+};
 use profile_file::{ProfileFault, fits, read};
 use refusals::Refusal;
 use std::alloc::Global;
