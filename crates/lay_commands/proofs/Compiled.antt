@@ -12,7 +12,7 @@ use Rattle.refusals.specs.declared.refusal.Refusal.TheVariants as R
 use Rattle.lay_commands.specs.Words.{Compilation}
 use Rattle.lay_compile.specs.ProgramFiles.Outside.{Outside, Stream, outside}
 use Rattle.lay_compile.specs.ProgramFiles.Reading.{AreFilesOf}
-use Rattle.lay_commands.specs.Compiling.{IsBuilt, IsCompiled, IsPartlyCompiled, IsCompiledTo, IsReportOf, MadeGives}
+use Rattle.lay_commands.specs.Compiling.{IsBuilt, IsCompiled, IsPartlyCompiled, IsCompiledTo, IsReportOf, OutputsGive}
 use Rattle.lay_commands.specs.Profiles.{IsProfileOf, IsRefused, WereGiven}
 use Rattle.lay_commands.specs.Stages.{WriteGives, ReportGives, CompileGives}
 use Rattle.lay_commands.proofs.Files.{keep_then_but, keep_then_same}
@@ -35,12 +35,12 @@ module _ (c : Compilation) (f0 f1 : Option Contents) (reads0 reads1 writes0 writ
   were P holds = (read, are, (p, counts, is_program, profile, holds))
 
   -- it is not built yet, or memory is out
-  pub made_refused : (reported : Stream) (name : List ℕ) → slice_get c.files 0 ≡ Some name → (refusal : Refusal) → MadeGives name c read p counts (Err refusal)
+  pub outputs_refused : (reported : Stream) (name : List ℕ) → slice_get c.files 0 ≡ Some name → (refusal : Refusal) → OutputsGive name c read p counts (Err refusal)
       → CompileGives c (outside f0 reads0 writes0 input reported) (outside f1 reads1 writes1 input reported) (Err refusal)
-  made_refused reported name first (R.NotBuilt other) gives =
+  outputs_refused reported name first (R.NotBuilt other) gives =
       (first ∙ ap Some (sym gives.0), were _ gives.1, record { files = kept; input = refl; out = refl })
-  made_refused reported name first R.Memory gives = inl (record { files = kept; input = refl; out = refl })
-  made_refused reported name first _ gives = absurd gives
+  outputs_refused reported name first R.Memory gives = inl (record { files = kept; input = refl; out = refl })
+  outputs_refused reported name first _ gives = absurd gives
 
   -- its ELF file is written or not: these are the host's files after it
   module _ (f2 : Option Contents) (reads2 writes2 : List ℕ → ℕ) (elf report : List ℕ) (built : IsBuilt c p counts) (is : IsFileOf p c.heap c.stack elf)

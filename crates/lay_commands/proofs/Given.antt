@@ -1,21 +1,26 @@
 -- What `compile` is given, stage by stage: what is left where one refuses, and at the end.
-use Rattle.std.proofs.Common.{◌≡◌, ℕ, ◌≤◌, List, length, map, Option, Some, None, refl, sym, inl, inr, subst}
-use Rattle.std.specs.Prelude.{Result, Ok, Err, IfErr}
+use Rattle.std.proofs.Common.{◌≡◌, ℕ, ◌<◌, ◌≤◌, ◌^◌, List, arith, length, map, Option, Some, None, refl, inl, inr}
+use Rattle.std.specs.Prelude.{All, Ok, Err}
+use Rattle.std.proofs.lemmas.List.Elements.{All-weaker}
 use Rattle.std.specs.Global.{Vec}
-use Rattle.lay_base.specs.Known.{Contents, IfKnown, FilesKeep, Rose}
+use Rattle.lay_base.specs.Known.{Contents, IfKnown, FilesKeep}
 use Rattle.lay_base.specs.declared.place.File.{File}
 use Rattle.lay_base.specs.declared.faults.LimitKind.TheVariants as L
 use Rattle.refusals.specs.declared.refusal.Refusal.{Refusal}
 use Rattle.refusals.specs.declared.refusal.Refusal.TheVariants as R
 use Rattle.c_link.specs.Programs.{IsProgramOf}
 use Rattle.c_typed.specs.declared.run_counts.counts.Counts.{Counts}
-use Rattle.c_typed.specs.Programs.{ProgramData, program_data}
+use Rattle.c_typed.specs.declared.program.Function.{Function}
+use Rattle.c_typed.specs.Programs.{ProgramData, data_of}
+use Rattle.c_typed.specs.RunCounts.Loops.{loops_of}
+use Rattle.c_link.proofs.Counted.{all_of_mapped}
 use Rattle.lay_compile.specs.declared.program_files.front_end.PlaceTexts.{PlaceTexts}
-use Rattle.lay_compile.specs.ProgramFiles.FrontEnd.{HasTexts, FilesAreRefused}
+use Rattle.lay_compile.specs.ProgramFiles.FrontEnd.{HasTexts}
 use Rattle.lay_compile.specs.ProgramFiles.Outside.{Stream, Outside, outside, IsUntouched}
-use Rattle.lay_compile.specs.ProgramFiles.Reading.{most_files, AreFilesOf, BytesGive, FilesGive, IsRead, NumberGives}
+use Rattle.lay_compile.specs.ProgramFiles.Reading.{AreFilesOf, BytesGive, FilesGive, NumberGives}
 use Rattle.lay_compile.proofs.ProgramFiles.FilesRead.{all_readable, known_before}
-use Rattle.lay_commands.specs.Profiles.{AreReadable, CountsGive, CountsIfAnyGive, IsProfileOf, IsRefused, ProfileBytesGive, ProfileIsRefused, profile_limit}
+use Rattle.lay_commands.specs.Profiles.{AreReadable, CountsGive, CountsIfAnyGive, IsProfileOf, IsRefused, ProfileBytesGive, profile_limit}
+use Rattle.profile_file.specs.Lines.{BreaksAt}
 use Rattle.lay_commands.specs.Words.{Compilation}
 
 -- ---- too many files
@@ -95,18 +100,26 @@ module _ (c : Compilation) (f0 f1 f2 : Option Contents) (reads0 reads1 reads2 wr
   named_refused name named bytes gives (R.BadProfile line) breaks = inr (name, named, (read, are, (p, is_program, known_line f0 (held name bytes.items gives.0))), unchanged)
     where
       known_line : (f : Option Contents) → IfKnown f name (λ file. file ≡ Some bytes.items)
-          → IfKnown f name (λ file. (own : List ℕ) × (file ≡ Some own) × _)
+          → IfKnown f name (λ file. (own : List ℕ) × (file ≡ Some own) × BreaksAt line own)
       known_line None known = tt
       known_line (Some files) known = (bytes.items, known, breaks)
   named_refused name named bytes gives (R.Stale function difference) stale = inr (
     name,
     named,
-    (read, are, (p, is_program, record {
-      counts = stale.0;
-      text = (stale.1, rw stale.2 (held name bytes.items gives.0));
-      differs = stale.3;
-      named = stale.4;
-    })),
+    (
+      read,
+      are,
+      (
+        p,
+        is_program,
+        record {
+          counts = stale.0;
+          text = (stale.1, rw stale.2 (held name bytes.items gives.0));
+          differs = stale.3;
+          named = stale.4;
+        },
+      ),
+    ),
     unchanged,
   )
   named_refused name named bytes gives R.Memory none = inl unchanged
@@ -129,20 +142,20 @@ module _ (c : Compilation) (f0 f1 f2 : Option Contents) (reads0 reads1 reads2 wr
   profile_of (Some name) (Some bytes) gives (Some own) counts = ((counts.0, rw counts.1 (held name bytes.items gives.0)), counts.2)
 
 -- the bytes of a profile are within the limit
-pub short_profile : (before now : List ℕ → ℕ) (f : Option Contents) (profile : Option (List ℕ)) (bytes : Vec ℕ)
-    → ProfileBytesGive before now f profile (Ok (Some bytes)) → length bytes.items ≤ profile_limit
-short_profile before now f None bytes gives = absurd gives
-short_profile before now f (Some name) bytes gives = gives.1
+pub short_profile : (reads0 reads1 : List ℕ → ℕ) (f : Option Contents) (profile : Option (List ℕ)) (bytes : Vec ℕ)
+    → ProfileBytesGive reads0 reads1 f profile (Ok (Some bytes)) → length bytes.items ≤ profile_limit
+short_profile reads0 reads1 f None bytes gives = absurd gives
+short_profile reads0 reads1 f (Some name) bytes gives = gives.1
 
 -- ---- refusals that have no place
 
-pub bytes_have_none : (f : Option Contents) (names : List (List ℕ)) (texts : PlaceTexts) (before now : List ℕ → ℕ) (f1 : Option Contents)
-    (profile : Option (List ℕ)) (refusal : Refusal) → ProfileBytesGive before now f1 profile (Err refusal) → HasTexts f names texts refusal
-bytes_have_none f names texts before now f1 None refusal gives = absurd gives
-bytes_have_none f names texts before now f1 (Some name) (R.FileFault other) gives = λ place. cc
-bytes_have_none f names texts before now f1 (Some name) (R.TooLong other) gives = λ place. cc
-bytes_have_none f names texts before now f1 (Some name) R.Memory gives = λ place. cc
-bytes_have_none f names texts before now f1 (Some name) _ gives = absurd gives
+pub bytes_have_none : (f : Option Contents) (names : List (List ℕ)) (texts : PlaceTexts) (reads0 reads1 : List ℕ → ℕ) (f1 : Option Contents)
+    (profile : Option (List ℕ)) (refusal : Refusal) → ProfileBytesGive reads0 reads1 f1 profile (Err refusal) → HasTexts f names texts refusal
+bytes_have_none f names texts reads0 reads1 f1 None refusal gives = absurd gives
+bytes_have_none f names texts reads0 reads1 f1 (Some name) (R.FileFault other) gives = λ place. cc
+bytes_have_none f names texts reads0 reads1 f1 (Some name) (R.TooLong other) gives = λ place. cc
+bytes_have_none f names texts reads0 reads1 f1 (Some name) R.Memory gives = λ place. cc
+bytes_have_none f names texts reads0 reads1 f1 (Some name) _ gives = absurd gives
 
 pub counts_have_none : (f : Option Contents) (names : List (List ℕ)) (texts : PlaceTexts) (bytes : Option (Vec ℕ)) (p : ProgramData) (refusal : Refusal)
     → CountsIfAnyGive bytes p (Err refusal) → HasTexts f names texts refusal
@@ -151,3 +164,10 @@ counts_have_none f names texts (Some bytes) p (R.BadProfile line) gives = λ pla
 counts_have_none f names texts (Some bytes) p (R.Stale function difference) gives = λ place. cc
 counts_have_none f names texts (Some bytes) p R.Memory gives = λ place. cc
 counts_have_none f names texts (Some bytes) p _ gives = absurd gives
+
+-- ---- loops of a program
+
+pub few_loops : (fs : List Function) → All (λ f. loops_of f ≤ 131072) (map data_of fs) → All (λ f. loops_of (data_of f) < 2 ^ 32) fs
+few_loops fs h =
+    All-weaker (λ f. loops_of (data_of f) ≤ 131072) (λ f. loops_of (data_of f) < 2 ^ 32) (λ f few. omega (arith, few)) fs
+    (all_of_mapped (λ f. loops_of f ≤ 131072) data_of fs h)

@@ -10,14 +10,14 @@ use Rattle.refusals.specs.declared.refusal.Refusal.{Refusal}
 use Rattle.refusals.specs.declared.refusal.Refusal.TheVariants as R
 use Rattle.lay_compile.specs.declared.program_files.front_end.PlaceTexts.{PlaceTexts}
 use Rattle.lay_compile.specs.ProgramFiles.FrontEnd.{HasTexts}
-use Rattle.lay_commands.specs.Compiling.{MadeGives}
+use Rattle.lay_commands.specs.Compiling.{OutputsGive}
 use Rattle.lay_commands.specs.Stages.{WriteGives, ReportGives}
 
-pub made_texts : (f : Option Contents) (names : List (List ℕ)) (texts : PlaceTexts) (given : List ℕ) (c : Compilation) (files : List File) (p : ProgramData)
-    (counts : Option Counts) (refusal : Refusal) → MadeGives given c files p counts (Err refusal) → HasTexts f names texts refusal
-made_texts f names texts given c files p counts (R.NotBuilt name) gives = λ place. cc
-made_texts f names texts given c files p counts R.Memory gives = λ place. cc
-made_texts f names texts given c files p counts _ gives = absurd gives
+pub outputs_texts : (f : Option Contents) (names : List (List ℕ)) (texts : PlaceTexts) (given : List ℕ) (c : Compilation) (files : List File) (p : ProgramData)
+    (counts : Option Counts) (refusal : Refusal) → OutputsGive given c files p counts (Err refusal) → HasTexts f names texts refusal
+outputs_texts f names texts given c files p counts (R.NotBuilt name) gives = λ place. cc
+outputs_texts f names texts given c files p counts R.Memory gives = λ place. cc
+outputs_texts f names texts given c files p counts _ gives = absurd gives
 
 pub write_texts : (f : Option Contents) (names : List (List ℕ)) (texts : PlaceTexts) (writes_before writes_now : ℕ) (before now : Option Contents)
     (out bytes : List ℕ) (refusal : Refusal) → WriteGives writes_before writes_now before now out bytes (Err refusal) → HasTexts f names texts refusal

@@ -1,7 +1,7 @@
 -- The outside after `compile`.
-use Rattle.std.specs.Prelude.{◌≡◌, ℕ, Bool, false, true, List, [], ◌∷◌, take, map, Option, Some, None, Result, Ok, Err, ◌⊎◌, ⊤}
+use Rattle.std.specs.Prelude.{◌≡◌, ℕ, Bool, false, true, List, [], ◌∷◌, take, Option, Some, None, Result, Ok, Err, ◌⊎◌, ⊤}
 use Rattle.std.specs.List.{list_any}
-use Rattle.lay_base.specs.Known.{Contents, Rose, IfKnown, Appends, FilesKeepBut}
+use Rattle.lay_base.specs.Known.{Rose, IfKnown, Appends, FilesKeepBut}
 use Rattle.lay_base.specs.declared.place.File.{File}
 use Rattle.refusals.specs.declared.refusal.Refusal.{Refusal}
 use Rattle.refusals.specs.declared.refusal.Refusal.TheVariants as R
@@ -18,7 +18,7 @@ use Rattle.compiled_files.specs.Files.{IsFileOf}
 use Rattle.lay_compile.specs.LineTexts.PlaceTexts.{IsPlaceText}
 use Rattle.lay_compile.specs.ProgramFiles.Outside.{Outside}
 use Rattle.lay_commands.specs.Profiles.{WereGiven}
-use Rattle.lay_commands.specs.declared.compiling.Made.{Made}
+use Rattle.lay_commands.specs.declared.compiling.Outputs.{Outputs}
 
 -- ---- which programs are compiled
 
@@ -115,9 +115,9 @@ PlanGives given c p counts (Err R.Memory) = Unit {0}
 PlanGives given c p counts (Err _) = ⊥
 
 -- the file and the report are made, or the program is not compiled yet; a refusal has the name that is given
-abbrev pub MadeGives : (given : List ℕ) → Compilation → List File → ProgramData → Option Counts → Result Made Refusal → Type 0
-MadeGives given c files p counts (Ok made) =
-    IsBuilt c p counts × IsFileOf p c.heap c.stack made.elf.items × IsReportOf c.is_plain files p counts made.report.items
-MadeGives given c files p counts (Err (R.NotBuilt name)) = (name ≡ given) × IsNotBuilt c p counts
-MadeGives given c files p counts (Err R.Memory) = Unit {0}
-MadeGives given c files p counts (Err _) = ⊥
+abbrev pub OutputsGive : (given : List ℕ) → Compilation → List File → ProgramData → Option Counts → Result Outputs Refusal → Type 0
+OutputsGive given c files p counts (Ok outputs) =
+    IsBuilt c p counts × IsFileOf p c.heap c.stack outputs.elf.items × IsReportOf c.is_plain files p counts outputs.report.items
+OutputsGive given c files p counts (Err (R.NotBuilt name)) = (name ≡ given) × IsNotBuilt c p counts
+OutputsGive given c files p counts (Err R.Memory) = Unit {0}
+OutputsGive given c files p counts (Err _) = ⊥

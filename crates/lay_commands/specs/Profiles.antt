@@ -13,7 +13,7 @@ use Rattle.c_typed.specs.Programs.{ProgramData, program_data}
 use Rattle.c_typed.specs.RunCounts.Counting.{name_at}
 use Rattle.c_typed.specs.RunCounts.Order.{profile_order}
 use Rattle.c_typed.specs.RunCounts.Stale.{Fits, stale}
-use Rattle.profile_file.specs.Reading.{BreaksAt}
+use Rattle.profile_file.specs.Lines.{BreaksAt}
 use Rattle.profile_file.specs.Text.{IsProfile, profile_text}
 use Rattle.lay_compile.specs.ProgramFiles.FrontEnd.{FilesAreRefused}
 use Rattle.lay_compile.specs.ProgramFiles.Outside.{Outside, IsUntouched, HoldsLonger}

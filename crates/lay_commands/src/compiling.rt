@@ -10,7 +10,7 @@ ghost use Rattle.lay_commands.specs.Words.{IsInRange, compilation_of};
 ghost use Rattle.lay_compile.specs.LineTexts.PlaceTexts.{IsPlaceText};
 ghost use Rattle.lay_compile.specs.ProgramFiles.FrontEnd.{HasTexts};
 ghost use Rattle.lay_compile.specs.ProgramFiles.Outside.{Stream, outside, stream};
-ghost use Rattle.lay_commands.specs.Compiling.{AreTextsFor, IsTextFor, MadeGives, PlanGives, Reports, changes, is_changed};
+ghost use Rattle.lay_commands.specs.Compiling.{AreTextsFor, IsTextFor, OutputsGive, PlanGives, Reports, changes, is_changed};
 ghost use Rattle.lay_commands.specs.Stages.{CompileGives, ReportGives};
 
 use crate::inputs::{Inputs, inputs_in};
@@ -27,7 +27,7 @@ use std::alloc::Global;
 
 /// The bytes of an ELF file, and those of the report.
 #[derive(Drop)]
-pub struct Made {
+pub struct Outputs {
     pub elf: Vec<u8>,
     pub report: Vec<u8>,
 }
@@ -97,8 +97,14 @@ fn texts_for(alloc: Global, files: &[File], plans: &[RecordPlan]) -> Result<List
     Ok(texts)
 }
 
-fn report_of(alloc: Global, files: &[File], p: &Typed, planned: Option<&Planned>) -> Result<Vec<u8>, NoMemory>
-    requires { All (λ file. length file.bytes ≤ 4194304) files.now }
+fn report_of(
+    alloc: Global,
+    files: &[File],
+    p: &Typed,
+    planned: Option<&Planned>,
+) -> Result<Vec<u8>, NoMemory>
+    requires short { All (λ file. length file.bytes ≤ 4194304) files.now }
+    requires few { HaveFewFields (program_data p.now).records }
     ensures { IfOk result (λ text. Reports (option_copied planned.entry) files.now (program_data p.now) text.items) }
 {
     match planned {
@@ -111,17 +117,22 @@ fn report_of(alloc: Global, files: &[File], p: &Typed, planned: Option<&Planned>
 }
 
 /// Makes the file and the report of what is given. The name is that of a refusal.
-fn made(alloc: Global, request: &CompileRequest<'_, '_>, name: &str, inputs: &Inputs) -> Result<Made, Refusal>
+fn outputs_of(
+    alloc: Global,
+    request: &CompileRequest<'_, '_>,
+    name: &str,
+    inputs: &Inputs,
+) -> Result<Outputs, Refusal>
     requires range { IsInRange (compilation_of request.now) }
     requires program { IsProgramOf inputs.now.source.files (program_data inputs.now.source.program) }
     requires short { All (λ file. length file.bytes ≤ 4194304) inputs.now.source.files }
-    ensures { MadeGives name.now (compilation_of request.now) inputs.now.source.files (program_data inputs.now.source.program) inputs.now.counts result }
+    ensures { OutputsGive name.now (compilation_of request.now) inputs.now.source.files (program_data inputs.now.source.program) inputs.now.counts result }
 {
     let p = &inputs.source.program;
     let planned = plan_to_keep(alloc, request, name, p, inputs.counts.as_ref())?;
     let elf = compiled(alloc, p, request.heap, request.stack)?;
     let report = report_of(alloc, inputs.source.files.as_slice(), p, planned.as_ref())?;
-    Ok(Made { elf, report })
+    Ok(Outputs { elf, report })
 }
 
 /// Writes the report.
@@ -153,7 +164,7 @@ pub fn compile<H: Host, O: Sink>(
     ensures texts { IfErr result (HasTexts (H.files host.old) (compilation_of request.entry).files texts.new) }
 {
     let inputs = inputs_in(alloc, &request, host, texts)?;
-    let made = made(alloc, &request, request.files[0], &inputs)?;
-    write_bytes(host, request.out, &made.elf)?;
-    write_report(out, &made.report)
+    let outputs = outputs_of(alloc, &request, request.files[0], &inputs)?;
+    write_bytes(host, request.out, &outputs.elf)?;
+    write_report(out, &outputs.report)
 }

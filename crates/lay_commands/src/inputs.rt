@@ -80,7 +80,10 @@ fn check_fit(alloc: Global, counts: &Counts, p: &Typed) -> Result<(), Refusal>
     match fits(counts, p, order.as_slice()) {
         Ok(()) => Ok(()),
         Err(difference) => {
-            match Vec::from_slice(alloc, profiled_name(p, order.as_slice(), difference.function)) {
+            match Vec::from_slice(
+                alloc,
+                profiled_name(p, order.as_slice(), difference.function),
+            ) {
                 Ok(name) => Err(Refusal::Stale(Name::of(name), difference)),
                 Err(_) => Err(Refusal::Memory),
             }
@@ -105,7 +108,11 @@ fn counts_of(alloc: Global, bytes: &[u8], p: &Typed) -> Result<Counts, Refusal>
 }
 
 /// The counts whose text the bytes are, if there are any.
-fn counts_if_any(alloc: Global, bytes: Option<Vec<u8>>, p: &Typed) -> Result<Option<Counts>, Refusal>
+fn counts_if_any(
+    alloc: Global,
+    bytes: Option<Vec<u8>>,
+    p: &Typed,
+) -> Result<Option<Counts>, Refusal>
     requires program { (files : Sequence File) × IsProgramOf files (program_data p.now) }
     requires short { IfSome bytes (λ bytes. length bytes.items ≤ profile_limit) }
     ensures { CountsIfAnyGive bytes (program_data p.now) result }
