@@ -7,6 +7,7 @@ ghost use Rattle.clap.specs.Simple.{subcommand_rows_of};
 ghost use Rattle.lay_commands.specs.Words.{command_found, command_of, requested, IsPossible};
 ghost use Rattle.lay_compile.specs.ProgramFiles.FrontEnd.{or_empty};
 ghost use Rattle.lay_compile.specs.ProgramFiles.Outside.{outside, stream};
+ghost use Rattle.layout_plan.specs.Planning.{PlansAreOne};
 ghost use Rattle.lay_commands.specs.Answers.{ErrGives, MayRead, OutcomeGives, OutcomeHas, run_outcome};
 
 use crate::compiling::compile;
@@ -19,6 +20,7 @@ use c_undefined_places::undefined_steps_stand_in_files;
 use clap::ArgMatches;
 use lay_base::{Bytes, Host, NoMemory, Sink, Source};
 use lay_compile::{PlaceTexts, named_texts_are_of_places, programs_are_one};
+use layout_plan::plans_are_one;
 use refusals::{Refusal, put_refusal};
 use std::alloc::Global;
 
@@ -138,12 +140,14 @@ pub fn layc<H: Host, I: Source, O: Sink, E: Sink>(
         OutcomeGives (command_of (map string_bytes words.now)) before now result }
     ensures err { ErrGives (command_of (map string_bytes words.now)) (H.files host.old) (I.left input.old) (stream (E.written err.old) (E.faults err.old))
         (stream (E.written err.new) (E.faults err.new)) result }
-    // The program of some files, of which these clauses speak, is the only one.
+    // The program of some files, of which these clauses speak, is the only one, and so is its plan by a profile or without.
     ensures one { ProgramsAreOne }
+    ensures plans { PlansAreOne }
 {
     named_texts_are_of_places();
     undefined_steps_stand_in_files();
     programs_are_one();
+    plans_are_one();
     let mut texts = PlaceTexts::none();
     let outcome = outcome_of(alloc, words, host, input, out, &mut texts);
     if let Outcome::Refused(refusal) = &outcome {

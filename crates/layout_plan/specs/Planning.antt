@@ -21,3 +21,9 @@ pub record IsPlanned (counts : Option Counts) (p : ProgramData) (it : Planned) :
 -- no record has more fields than a program may (own)
 abbrev pub HaveFewFields : List Record → Type 0
 HaveFewFields records = All (λ r. length r.fields ≤ 64) records
+
+-- ---- a law
+
+-- a program has at most one plan by a profile, and one without
+abbrev pub PlansAreOne : Type 0
+PlansAreOne = (counts : Option Counts) (p : ProgramData) (a b : Planned) → IsPlanned counts p a → IsPlanned counts p b → a ≡ b

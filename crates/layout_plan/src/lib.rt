@@ -8,6 +8,7 @@
 //! said of the rewritings.
 #![tactic(auto)]
 
+mod laws;
 mod order;
 mod outline;
 mod outlining;
@@ -17,5 +18,6 @@ mod placing;
 mod planning;
 mod plans;
 
+pub use laws::plans_are_one;
 pub use planning::{plan, planned};
 pub use plans::{Decision, PartField, Plan, Planned, RecordPlan};
