@@ -15,7 +15,7 @@ use std::alloc::Global;
 
 /// Whether each record has as few fields as a plan asks for.
 fn have_few_fields(records: &[Record]) -> bool
-    ensures { IsTrue result → HaveFewFields (records_of records.now) }
+    ensures { IsTrue result → All (λ r. length r.fields ≤ 64) records.now }
 {
     records.iter().all(|r| r.fields.len() <= 64)
 }
@@ -49,6 +49,7 @@ fn report_of(
 }
 
 /// The report, below the name of its row.
+#[tactic(auto, using(crate::proofs::Few::few))]
 pub fn put_report(
     out: &mut Writer,
     alloc: Global,
