@@ -9,3 +9,5 @@ pub mod StandingStatements
 pub mod StandingCalls
 pub mod PlacesOfUnits
 pub mod PlacesOfPrograms
+pub mod PlacedFacts
+pub mod PlacedBreaches

@@ -6,6 +6,7 @@ use Rattle.std.specs.List.{AllByRecursion}
 use Rattle.std.specs.Option.{option_map}
 use Rattle.lay_base.specs.declared.place.Place.{Place}
 use Rattle.c_tokens.specs.TokenPlaces.{TokensHavePlaces, IsPlaceOf}
+use Rattle.c_facts.specs.Programs.{facts_of}
 use Rattle.c_typed.specs.Mapped.{Renaming, mapped_statement}
 use Rattle.c_typed.specs.Programs.{FunctionData, UnitData}
 use Rattle.c_typed.specs.Trees as Typed
@@ -19,8 +20,10 @@ use Rattle.c_well_typed.proofs.GapPlaces.PlacesOfUnits.{ArePlaced, each_unit_pla
 use Rattle.c_well_typed.proofs.JoinedFunctions.{each_is, is_each}
 use Rattle.c_well_typed.proofs.LookedUp.{of_unit as found_unit, unit_among}
 use Rattle.c_undefined_places.specs.Laws.{ProgramsStandInFiles, UndefinedStepsStandInFiles}
+use Rattle.c_undefined_places.specs.Verdicts.{IsPlacedFact, FactsStandInFiles}
 use Rattle.c_undefined_places.specs.Placed.{IsPlacedStatement, IsPlacedFunction, FunctionsArePlaced}
 use Rattle.c_undefined_places.proofs.Moved.{statement_again}
+use Rattle.c_undefined_places.proofs.PlacedBreaches.{facts_placed}
 use Rattle.c_undefined_places.proofs.PlacesOfUnits.{HasPlacedBody, AreFunctionsPlaced, each_unit_placed}
 use Rattle.c_undefined_places.proofs.StandingCalls.{each_at, undefined_at}
 
@@ -49,6 +52,10 @@ programs_stand places texts files p h =
     subst (FunctionsArePlaced (IsPlaceOf files)) (sym h.program.joined_units)
     (functions_placed (IsPlaceOf files) h.units (each_unit_stands places trees_begin_first texts files h.units h.of_files)
     (each_unit_placed places files h.units h.of_files))
+
+pub facts_stand : TokensHavePlaces → TextsAreInOrder → FactsStandInFiles
+facts_stand places texts files p h =
+    All-from_recursion (IsPlacedFact (IsPlaceOf files)) (facts_of p) (facts_placed (IsPlaceOf files) p (programs_stand places texts files p h))
 
 has_body : (body : Option (Typed.Statement ℕ)) → is_some body ≡ true → (s : Typed.Statement ℕ) × (body ≡ Some s)
 has_body None h = cc

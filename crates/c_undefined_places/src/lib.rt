@@ -6,4 +6,4 @@
 
 mod laws;
 
-pub use laws::{programs_stand_in_files, undefined_steps_stand_in_files};
+pub use laws::{facts_stand_in_files, programs_stand_in_files, undefined_steps_stand_in_files};
