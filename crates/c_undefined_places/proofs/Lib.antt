@@ -11,3 +11,5 @@ pub mod PlacesOfUnits
 pub mod PlacesOfPrograms
 pub mod PlacedFacts
 pub mod PlacedBreaches
+pub mod PlacedOutside
+pub mod PlacedTold
