@@ -13,3 +13,4 @@ pub mod PlacedFacts
 pub mod PlacedBreaches
 pub mod PlacedOutside
 pub mod PlacedTold
+pub mod PlacedMentions

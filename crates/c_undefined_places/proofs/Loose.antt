@@ -201,7 +201,7 @@ module _ (d : Declared) (Is : Place → Type 0) where
       let own = All-head (IsTypedPart d t) first typed k in
       (value_settled part.value own.0 own.2 h.0, parts_settled all t (All-tail (IsTypedPart d t) first typed k) h.1)
 
-  initial_settled : (i : Option (Trees.Initializer Noted)) (t : CType) → IsInitialized d t (option_map (mapped_initializer (of_types (λ t. t.ty))) i)
+  pub initial_settled : (i : Option (Trees.Initializer Noted)) (t : CType) → IsInitialized d t (option_map (mapped_initializer (of_types (λ t. t.ty))) i)
       → IsLooseInitial Is i → IsPlacedInitial Is i
   initial_settled None t k h = tt
   initial_settled (Some (Trees.whole e)) t k h = settled e k.0 h

@@ -71,7 +71,7 @@ module _ {T S : Type 0} (m : Renaming T S) (Is : Place → Type 0) where
   parts_again [] h = tt
   parts_again (part ∷ all) h = (value_again part.value h.0, parts_again all h.1)
 
-  initial_again : (i : Option (Trees.Initializer T)) → IsPlacedInitial Is i → IsPlacedInitial Is (option_map (mapped_initializer m) i)
+  pub initial_again : (i : Option (Trees.Initializer T)) → IsPlacedInitial Is i → IsPlacedInitial Is (option_map (mapped_initializer m) i)
   initial_again None h = tt
   initial_again (Some (Trees.whole e)) h = again e h
   initial_again (Some (Trees.whole_record p)) h = path_again p h

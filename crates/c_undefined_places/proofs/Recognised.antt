@@ -152,7 +152,7 @@ module _ (Is : Place → Type 0) where
   parts_again [] h = tt
   parts_again (part ∷ all) h = (value_again part.value h.0, parts_again all h.1)
 
-  initial_again : (i : Option (Trees.Initializer Noted)) → IsPlacedInitial Is i → IsPlacedInitial Is (option_map recognised_initializer i)
+  pub initial_again : (i : Option (Trees.Initializer Noted)) → IsPlacedInitial Is i → IsPlacedInitial Is (option_map recognised_initializer i)
   initial_again None h = tt
   initial_again (Some (Trees.whole e)) h = again e h
   initial_again (Some (Trees.whole_record p)) h = path_again p h
