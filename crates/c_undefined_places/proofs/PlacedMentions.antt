@@ -7,6 +7,7 @@ use Rattle.std.specs.Option.{option_map}
 use Rattle.lay_base.specs.declared.place.File.{File}
 use Rattle.lay_base.specs.declared.place.Place.{Place}
 use Rattle.c_tokens.specs.TokenPlaces.{IsPlaceIn, TokensHavePlaces, IsPlaceOf}
+use Rattle.c_types.specs.Types.{CType}
 use Rattle.c_ast.specs.Laws.{TreesBeginFirst}
 use Rattle.c_ast.specs.Spelling.{Lexeme, spell, spelled_value}
 use Rattle.c_ast.specs.Trees
@@ -18,7 +19,7 @@ use Rattle.c_erasure.specs.Files.{AreAscending, IsFileOf, IsTypedObject}
 use Rattle.c_erasure.specs.InitialMentions.{told_by_initial}
 use Rattle.c_erasure.specs.Marks.{marks_of_file, scope_beginnings}
 use Rattle.c_erasure.specs.Noted.{Noted}
-use Rattle.c_erasure.specs.Scopes.{AMention, AnObject, FileScope, at_file_scope, declared}
+use Rattle.c_erasure.specs.Scopes.{AMention, AnObject, FileScope, Scope, at_file_scope, declared}
 use Rattle.c_erasure.specs.Units as Units
 use Rattle.c_erasure.specs.Units.{is_size_operand, recognised_initializer, typed_initializer}
 use Rattle.c_erasure.proofs.MarkPlaces.Ordered.{marks_are_in_order}
@@ -63,11 +64,11 @@ module _ (P : ℕ → Type 0) (begin : P 0) (items : List Trees.Item) (f : FileS
     of_value = λ value s t i rest full b k. constants_loose Is f.file begin value s t i rest (here s full.0) (record { each = tokens_at P _ b }) k;
   }
     where
-      here : (s : _) → s.file ≡ f → s.file.file ≡ f.file
+      here : (s : Scope) → s.file ≡ f → s.file.file ≡ f.file
       here s e = subst (λ (g : FileScope). g.file ≡ f.file) (sym e) refl
 
   -- ... and with these
-  settled : (t : _) (i : Typed.Initializer Noted) → IsTypedObject f t i → IsLooseInitializer Is i → IsPlacedInitial Is (Some i)
+  settled : (t : CType) (i : Typed.Initializer Noted) → IsTypedObject f t i → IsLooseInitializer Is i → IsPlacedInitial Is (Some i)
   settled t (Typed.parts []) k l = tt
   settled t (Typed.parts (part ∷ all)) k l = initial_settled (declared (at_file_scope f)) Is (Some (Typed.parts (part ∷ all))) t k l
   settled t (Typed.whole e) k l = initial_settled (declared (at_file_scope f)) Is (Some (Typed.whole e)) t k l
