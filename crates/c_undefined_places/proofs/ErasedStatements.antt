@@ -19,7 +19,7 @@ use Rattle.c_erasure.specs.Statements.{IsPlainIfAny, IsStart, with_first, IsArra
 use Rattle.c_erasure.specs.Statements.{EraseSwitchItems}
 use Rattle.c_checking_units.proofs.FaultPlaces.Blocks.{if_any_behind, labels_behind, start_behind, statement_behind, block_item_behind, switch_item_behind}
 use Rattle.c_checking_units.proofs.FaultPlaces.Tokens.{Tokens, back, comma_after, specifiers_behind, declarator_behind}
-use Rattle.c_undefined_places.proofs.Loose.{IsLoose, IsLoosePath, AreLooseParts, IsLooseInitializer, IsLooseInitial, IsLooseIfAny, IsLooseStatement}
+use Rattle.c_undefined_places.proofs.Loose.{IsLoose, AreLooseParts, IsLooseInitializer, IsLooseInitial, IsLooseIfAny, IsLooseStatement}
 use Rattle.c_undefined_places.proofs.Loose.{AreLooseStatements, AreLooseArms}
 use Rattle.c_undefined_places.proofs.ErasedExpressions as Expressions
 

@@ -10,11 +10,11 @@ use Rattle.c_typed.specs.Mapped.{mapped_initializer}
 use Rattle.c_typed.specs.Mapped.{mapped_statement, mapped_statements, mapped_arms}
 use Rattle.c_typed.specs.Trees
 use Rattle.c_typed.specs.Typed.{Declared, at_of, IsTyped, IsTypedNode, AreArguments, IsCount, IsTypedPath, IsTypedStep}
-use Rattle.c_typed.specs.TypedStatements.{IsTypedValue, IsTypedPart, IsTypedInitializer, IsInitialized, IsCondition, IsEffect, IsReturned}
+use Rattle.c_typed.specs.TypedStatements.{IsTypedValue, IsTypedPart, IsInitialized, IsCondition, IsEffect, IsReturned}
 use Rattle.c_typed.specs.TypedStatements.{IsTypedStatement, AreTyped, AreTypedArms}
 use Rattle.c_erasure.specs.Noted.{Noted, Expression, Path, Node, PathNode}
 use Rattle.c_undefined_places.specs.Placed.{IsPlaced, IsPlacedNode, IsPlacedPath, IsPlacedStep, ArePlaced, IsPlacedCount, IsPlacedValue, ArePlacedParts}
-use Rattle.c_undefined_places.specs.Placed.{IsPlacedInitializer, IsPlacedInitial, IsPlacedIfAny, IsPlacedStatement, ArePlacedStatements, ArePlacedArms}
+use Rattle.c_undefined_places.specs.Placed.{IsPlacedInitial, IsPlacedIfAny, IsPlacedStatement, ArePlacedStatements, ArePlacedArms}
 
 -- each place is so but for those of implicit conversions
 module _ {T : Type 0} (Is : Place → Type 0) where

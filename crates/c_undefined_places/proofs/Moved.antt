@@ -7,7 +7,7 @@ use Rattle.c_typed.specs.Mapped.{Renaming, mapped, mapped_node, mapped_path, map
 use Rattle.c_typed.specs.Mapped.{mapped_initializer, mapped_statement, mapped_statements, mapped_arms}
 use Rattle.c_typed.specs.Trees
 use Rattle.c_undefined_places.specs.Placed.{IsPlaced, IsPlacedNode, IsPlacedPath, IsPlacedStep, ArePlaced, IsPlacedCount, IsPlacedValue, ArePlacedParts}
-use Rattle.c_undefined_places.specs.Placed.{IsPlacedInitializer, IsPlacedInitial, IsPlacedIfAny, IsPlacedStatement, ArePlacedStatements, ArePlacedArms}
+use Rattle.c_undefined_places.specs.Placed.{IsPlacedInitial, IsPlacedIfAny, IsPlacedStatement, ArePlacedStatements, ArePlacedArms}
 
 module _ {T S : Type 0} (m : Renaming T S) (Is : Place → Type 0) where
   mutual

@@ -1,8 +1,8 @@
 -- Where the functions of a program stand at places that are so, and its mentions and the fields of its records do, its violations do.
-use Rattle.std.proofs.Common.{◌≡◌, ℕ, ◌+◌, Bool, true, false, refl, sym, ap, subst, List, [], ◌∷◌, ◌++◌, inl, inr, map, Some, None}
-use Rattle.std.specs.Prelude.{Option, IfSome, All, flat_map, if◌then◌else◌, not, ◌&&◌, slice_get}
+use Rattle.std.proofs.Common.{◌≡◌, ℕ, ◌+◌, Bool, true, false, refl, sym, subst, List, [], ◌∷◌, ◌++◌, inl, inr, Some, None}
+use Rattle.std.specs.Prelude.{Option, IfSome, flat_map, if◌then◌else◌, not, ◌&&◌, slice_get}
 use Rattle.std.specs.List.{AllByRecursion}
-use Rattle.std.proofs.lemmas.List.Elements.{recursion_from_All, All-from_recursion}
+use Rattle.std.proofs.lemmas.List.Elements.{recursion_from_All}
 use Rattle.lay_base.specs.declared.place.Place.{Place}
 use Rattle.c_types.specs.Types.{CType, Field, Record}
 use Rattle.c_types.specs.Sameness.{same_type}
@@ -20,9 +20,8 @@ use Rattle.c_facts.specs.declared.fact.Fact.TheVariants as F
 use Rattle.c_facts.specs.Programs.{facts_by_body, facts_of_any, facts_in, facts_of}
 use Rattle.legality.specs.declared.violation.Test.{Test}
 use Rattle.legality.specs.declared.violation.Test.TheVariants.{Cstt, Cstf, Atkn, Libc, Ind, Mset, Nest, Size, Objt, Copy}
-use Rattle.legality.specs.declared.violation.Violation.{Violation}
 use Rattle.legality.specs.Breaches.{Breach, all_of, by_conversion, by_argument, if_known, if_both, by_fact, by_kind, by_mention, by_held, by_field, by_records}
-use Rattle.legality.specs.Breaches.{breach, breaches, IsIn}
+use Rattle.legality.specs.Breaches.{breaches, IsIn}
 use Rattle.legality.specs.Holdings.{held_in, holdings_of}
 use Rattle.legality.specs.InTypes.{arrays_in, itself, pointed, pointers_in}
 use Rattle.c_undefined_places.specs.Placed.{IsPlacedStatement, IsPlacedFunction, FunctionsArePlaced}

@@ -11,7 +11,7 @@ use Rattle.c_facts.specs.declared.fact.Fact.{Fact}
 use Rattle.c_facts.specs.declared.fact.Fact.TheVariants as F
 use Rattle.c_facts.specs.Contexts.{is_permitted, passes}
 use Rattle.c_facts.specs.Facts.{converted, of_conversion, facts_by_all, facts_by_arms, facts_by_expression, facts_by_initial, facts_by_node, facts_by_optional}
-use Rattle.c_facts.specs.Facts.{facts_by_path, facts_by_statement, facts_by_statements, facts_by_step, facts_by_value, if_any, read_whole, tested, effect}
+use Rattle.c_facts.specs.Facts.{facts_by_path, facts_by_statement, facts_by_statements, facts_by_step, facts_by_value, if_any, tested, effect}
 use Rattle.c_facts.specs.Fields.{site, taken}
 use Rattle.c_undefined_places.specs.Placed.{IsPlaced, IsPlacedNode, IsPlacedPath, IsPlacedStep, ArePlaced, IsPlacedCount, IsPlacedValue, ArePlacedParts}
 use Rattle.c_undefined_places.specs.Placed.{IsPlacedInitial, IsPlacedIfAny, IsPlacedStatement, ArePlacedStatements, ArePlacedArms}

@@ -1,5 +1,5 @@
 -- The mentions of the unit of a file stand at places of its text: those of the tokens of its declarators, and of the initializers of its objects.
-use Rattle.std.proofs.Common.{◌≡◌, ◌∙◌, ℕ, zero, suc, ◌+◌, ◌≤◌, refl, sym, subst, List, [], ◌∷◌, ◌++◌, length, map, flat_map, filter, Some, None, arith}
+use Rattle.std.proofs.Common.{◌≡◌, ◌∙◌, ℕ, suc, ◌+◌, refl, sym, subst, List, [], ◌∷◌, ◌++◌, length, flat_map, filter, Some, None, arith}
 use Rattle.std.proofs.Common.{append_assoc, length-append}
 use Rattle.std.specs.Prelude.{Option, not, slice_get}
 use Rattle.std.specs.List.{AllByRecursion}
@@ -9,10 +9,10 @@ use Rattle.lay_base.specs.declared.place.Place.{Place}
 use Rattle.c_tokens.specs.TokenPlaces.{IsPlaceIn, TokensHavePlaces, IsPlaceOf}
 use Rattle.c_types.specs.Types.{CType}
 use Rattle.c_ast.specs.Laws.{TreesBeginFirst}
-use Rattle.c_ast.specs.Spelling.{Lexeme, spell, spelled_value}
+use Rattle.c_ast.specs.Spelling.{Lexeme, spell}
 use Rattle.c_ast.specs.Trees
 use Rattle.c_typed.specs.declared.program.Mention.{Mention}
-use Rattle.c_typed.specs.Mapped.{of_types, mapped_initializer}
+use Rattle.c_typed.specs.Mapped.{of_types}
 use Rattle.c_typed.specs.Programs.{UnitData}
 use Rattle.c_typed.specs.Trees as Typed
 use Rattle.c_erasure.specs.Files.{AreAscending, IsFileOf, IsTypedObject}
@@ -25,7 +25,6 @@ use Rattle.c_erasure.specs.Units.{is_size_operand, recognised_initializer, typed
 use Rattle.c_erasure.proofs.MarkPlaces.Ordered.{marks_are_in_order}
 use Rattle.c_checking_laws.specs.TextOrder.TextOrder.{TextsAreInOrder}
 use Rattle.c_checking_units.proofs.FaultPlaces.Texts.{beginning, tokens_of}
-use Rattle.c_checking_units.proofs.FaultPlaces.Tokens.{Tokens}
 use Rattle.c_link.specs.Programs.{IsUnitOfFile, AreUnitsOf}
 use Rattle.c_well_typed.proofs.FileObjects.{objects_known}
 use Rattle.c_well_typed.proofs.GapPlaces.Everywhere.{both, each_of, kept, behind}

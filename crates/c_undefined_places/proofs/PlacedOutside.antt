@@ -1,5 +1,5 @@
 -- The fields of the records of a program stand where those of its units do, and its mentions where theirs do.
-use Rattle.std.proofs.Common.{ℕ, ◌+◌, List, [], ◌∷◌, ◌++◌, map, flat_map}
+use Rattle.std.proofs.Common.{ℕ, ◌+◌, List, [], ◌∷◌, flat_map}
 use Rattle.std.specs.Str.{bytes_eq}
 use Rattle.std.specs.List.{AllByRecursion}
 use Rattle.lay_base.specs.declared.place.Place.{Place}

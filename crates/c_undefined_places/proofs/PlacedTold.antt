@@ -7,7 +7,7 @@ use Rattle.c_types.specs.Sameness.{same_type}
 use Rattle.c_types.specs.Types.{CType}
 use Rattle.c_typed.specs.Conversions.{is_pointer}
 use Rattle.c_typed.specs.Trees as Trees
-use Rattle.c_erasure.specs.InitialMentions.{mention, is_null_node, place, ty, of_conversion, told, told_by_node, told_by_path, told_by_step, told_by_value}
+use Rattle.c_erasure.specs.InitialMentions.{is_null_node, place, ty, of_conversion, told, told_by_node, told_by_path, told_by_step, told_by_value}
 use Rattle.c_erasure.specs.InitialMentions.{told_by_initial}
 use Rattle.c_erasure.specs.Scopes.{AMention}
 use Rattle.c_undefined_places.specs.Placed.{IsPlaced, IsPlacedNode, IsPlacedPath, IsPlacedStep, IsPlacedValue, ArePlacedParts, IsPlacedInitial}

@@ -6,9 +6,7 @@ use Rattle.lay_base.specs.declared.place.Place.{Place}
 use Rattle.c_types.specs.declared.ty.IntKind.TheVariants.{UInt}
 use Rattle.c_types.specs.Sameness.{same_type}
 use Rattle.c_types.specs.Types.{CType, void, integer, pointer, array, function, structure}
-use Rattle.c_typed.specs.declared.operators.BinaryOp.{BinaryOp}
 use Rattle.c_typed.specs.declared.operators.BinaryOp.TheVariants.{Multiply}
-use Rattle.c_typed.specs.declared.operators.LibraryFunction.{LibraryFunction}
 use Rattle.c_typed.specs.declared.operators.LibraryFunction.TheVariants.{Malloc, Calloc}
 use Rattle.c_typed.specs.Trees
 use Rattle.c_erasure.specs.Noted.{Noted, Note, nothing, size_of, Expression, Path, Node, PathNode, unless_noted, unconverted}
@@ -16,7 +14,7 @@ use Rattle.c_erasure.specs.Recognised.{is_note_of, is_size, as_unsigned_from, as
 use Rattle.c_erasure.specs.Recognised.{converted, recognised, recognised_node, recognised_path, recognised_step, recognised_all}
 use Rattle.c_erasure.specs.Units.{recognised_value, recognised_part, recognised_initializer, recognised_statement, recognised_statements, recognised_arms}
 use Rattle.c_undefined_places.specs.Placed.{IsPlaced, IsPlacedNode, IsPlacedPath, IsPlacedStep, ArePlaced, IsPlacedCount, IsPlacedValue, ArePlacedParts}
-use Rattle.c_undefined_places.specs.Placed.{IsPlacedInitializer, IsPlacedInitial, IsPlacedIfAny, IsPlacedStatement, ArePlacedStatements, ArePlacedArms}
+use Rattle.c_undefined_places.specs.Placed.{IsPlacedInitial, IsPlacedIfAny, IsPlacedStatement, ArePlacedStatements, ArePlacedArms}
 
 module _ (Is : Place → Type 0) where
   -- ---- allocations

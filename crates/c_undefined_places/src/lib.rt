@@ -7,4 +7,7 @@
 
 mod laws;
 
-pub use laws::{facts_stand_in_files, programs_stand_in_files, undefined_steps_stand_in_files, violations_stand_in_files};
+pub use laws::{
+    facts_stand_in_files, programs_stand_in_files, undefined_steps_stand_in_files,
+    violations_stand_in_files,
+};

@@ -79,7 +79,6 @@ pub any_good : (f : FileScope) → AreGood Anywhere (λ i. Unit {0}) f
 any_good f = record { of_text = λ bytes. tt; of_zero = tt; of_value = λ value s t i rest e b h. tt }
 
 module _ {P : ℕ → Type 0} {Good : Typed.Initializer Noted → Type 0} (f : FileScope) (good : AreGood P Good f) where
-
   literal_accounted : (s : Scope) (all : List Spelling) (th : Thing) → IsFull f s → AreBytes (literal_of all)
       → IsLiteralFor s.purpose s (place_in s (first_text all)) (literal_of all) th → AreAccounted Good f (first_text all ∷ [])
   literal_accounted s all th e b h =
