@@ -24,6 +24,7 @@ use Rattle.legality.specs.Breaches.{Breach, all_of, by_conversion, by_argument, 
 use Rattle.legality.specs.Breaches.{breaches, IsIn}
 use Rattle.legality.specs.Holdings.{held_in, holdings_of}
 use Rattle.legality.specs.InTypes.{arrays_in, itself, pointed, pointers_in}
+use Rattle.c_well_typed.proofs.GapPlaces.Everywhere as Lists
 use Rattle.c_undefined_places.specs.Placed.{IsPlacedStatement, IsPlacedFunction, FunctionsArePlaced}
 use Rattle.c_undefined_places.specs.Verdicts.{IsPlacedFact}
 use Rattle.c_undefined_places.proofs.PlacedFacts.{Have, and, first, by_statement}
@@ -59,13 +60,8 @@ module _ (Is : Place → Type 0) where
   none : Stand []
   none = record { each = tt }
 
-  of_both : (a b : List Breach) → AllByRecursion (λ b. Is b.by.place) a → AllByRecursion (λ b. Is b.by.place) b
-      → AllByRecursion (λ b. Is b.by.place) (a ++ b)
-  of_both [] b p q = q
-  of_both (x ∷ a) b p q = (p.0, of_both a b p.1 q)
-
   both : {a b : List Breach} → Stand a → Stand b → Stand (a ++ b)
-  both {a} {b} p q = record { each = of_both a b p.each q.each }
+  both {a} {b} p q = record { each = Lists.both (λ (b : Breach). Is b.by.place) a b p.each q.each }
 
   at_place : (which : Test) (at : Place) (numbers : List ℕ) → Is at → Stand (all_of which at numbers)
   at_place which at [] h = none

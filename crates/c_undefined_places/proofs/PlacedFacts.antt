@@ -13,6 +13,7 @@ use Rattle.c_facts.specs.Contexts.{is_permitted, passes}
 use Rattle.c_facts.specs.Facts.{converted, of_conversion, facts_by_all, facts_by_arms, facts_by_expression, facts_by_initial, facts_by_node, facts_by_optional}
 use Rattle.c_facts.specs.Facts.{facts_by_path, facts_by_statement, facts_by_statements, facts_by_step, facts_by_value, if_any, tested, effect}
 use Rattle.c_facts.specs.Fields.{site, taken}
+use Rattle.c_well_typed.proofs.GapPlaces.Everywhere.{both}
 use Rattle.c_undefined_places.specs.Placed.{IsPlaced, IsPlacedNode, IsPlacedPath, IsPlacedStep, ArePlaced, IsPlacedCount, IsPlacedValue, ArePlacedParts}
 use Rattle.c_undefined_places.specs.Placed.{IsPlacedInitial, IsPlacedIfAny, IsPlacedStatement, ArePlacedStatements, ArePlacedArms}
 use Rattle.c_undefined_places.specs.Verdicts.{IsPlacedFact}
@@ -24,12 +25,8 @@ module _ (Is : Place → Type 0) where
   none : Have []
   none = record { each = tt }
 
-  of_both : (a b : List Fact) → AllByRecursion (IsPlacedFact Is) a → AllByRecursion (IsPlacedFact Is) b → AllByRecursion (IsPlacedFact Is) (a ++ b)
-  of_both [] b p q = q
-  of_both (x ∷ a) b p q = (p.0, of_both a b p.1 q)
-
   pub and : {a b : List Fact} → Have a → Have b → Have (a ++ b)
-  and {a} {b} p q = record { each = of_both a b p.each q.each }
+  and {a} {b} p q = record { each = both (IsPlacedFact Is) a b p.each q.each }
 
   pub first : {a : List Fact} (fact : Fact) → IsPlacedFact Is fact → Have a → Have (fact ∷ a)
   first fact h p = record { each = (h, p.each) }

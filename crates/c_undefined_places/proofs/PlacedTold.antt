@@ -10,6 +10,7 @@ use Rattle.c_typed.specs.Trees as Trees
 use Rattle.c_erasure.specs.InitialMentions.{is_null_node, place, ty, of_conversion, told, told_by_node, told_by_path, told_by_step, told_by_value}
 use Rattle.c_erasure.specs.InitialMentions.{told_by_initial}
 use Rattle.c_erasure.specs.Scopes.{AMention}
+use Rattle.c_well_typed.proofs.GapPlaces.Everywhere.{both}
 use Rattle.c_undefined_places.specs.Placed.{IsPlaced, IsPlacedNode, IsPlacedPath, IsPlacedStep, IsPlacedValue, ArePlacedParts, IsPlacedInitial}
 
 -- the byte of a place
@@ -23,12 +24,8 @@ module _ (P : ℕ → Type 0) where
   none : Have []
   none = record { each = tt }
 
-  of_both : (a b : List AMention) → AllByRecursion (λ m. P m.at) a → AllByRecursion (λ m. P m.at) b → AllByRecursion (λ m. P m.at) (a ++ b)
-  of_both [] b p q = q
-  of_both (x ∷ a) b p q = (p.0, of_both a b p.1 q)
-
   and : {a b : List AMention} → Have a → Have b → Have (a ++ b)
-  and {a} {b} p q = record { each = of_both a b p.each q.each }
+  and {a} {b} p q = record { each = both (λ (m : AMention). P m.at) a b p.each q.each }
 
   own_place : (e : Trees.Expression CType) → IsPlaced (ByByte P) e → P (place e).at
   own_place (Trees.expression t at node) h = h.0
