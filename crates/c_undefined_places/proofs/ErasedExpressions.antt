@@ -1,5 +1,5 @@
 -- What stands for an expression of a text stands where its tokens do, but for implicit conversions (C99 6.5).
-use Rattle.std.proofs.Common.{◌≡◌, ℕ, Bool, true, false, sym, subst, List, [], inl, inr, Some}
+use Rattle.std.proofs.Common.{◌≡◌, ℕ, true, false, sym, subst, List, [], inl, inr, Some}
 use Rattle.lay_base.specs.declared.place.Place.{Place}
 use Rattle.c_types.specs.Types.{CType, integer, pointer, array}
 use Rattle.c_ast.specs.declared.operators.UnaryOp.TheVariants as U
@@ -17,7 +17,7 @@ use Rattle.c_erasure.specs.Scopes.{Scope, Entity, typedef, enumerator, a_local, 
 use Rattle.c_erasure.specs.Scopes as Scopes
 use Rattle.c_checking_units.proofs.FaultPlaces.Firsts.{begins}
 use Rattle.c_checking_units.proofs.FaultPlaces.Tokens.{Tokens, front, back, comma_after, expression_behind, type_name_behind}
-use Rattle.c_undefined_places.proofs.Loose.{IsLoose, IsLooseNode, IsLoosePath, AreLoose}
+use Rattle.c_undefined_places.proofs.Loose.{IsLoose, IsLoosePath, AreLoose}
 
 some_is : {A : Type 0} (x y : A) → Some x ≡ Some y → x ≡ y
 some_is x y h = cc

@@ -14,12 +14,12 @@ use Rattle.c_erasure.specs.Erasure.{Values, Erases}
 use Rattle.c_erasure.specs.Initializers.{Part, part_at, texts_of, IsText, Initializes, IsOneValue, InitializeElements, InitializeFields, IsInitializer}
 use Rattle.c_erasure.specs.Noted.{Noted, Expression, Path, an_object, type_of, type_of_path}
 use Rattle.c_erasure.specs.Scopes.{Scope, inside}
-use Rattle.c_erasure.specs.Statements.{Statement, Statements, Arms, followed_by, HasInitializer, with_object, with_variable, DeclareAll, IsLocalDeclaration}
+use Rattle.c_erasure.specs.Statements.{Statement, Statements, Arms, followed_by, HasInitializer, HasConstants, with_object, with_variable, DeclareAll, IsLocalDeclaration}
 use Rattle.c_erasure.specs.Statements.{IsPlainIfAny, IsStart, with_first, IsArranged, ErasesStatement, ErasesItem, EraseItems, ErasesSwitchItem}
 use Rattle.c_erasure.specs.Statements.{EraseSwitchItems}
 use Rattle.c_checking_units.proofs.FaultPlaces.Blocks.{if_any_behind, labels_behind, start_behind, statement_behind, block_item_behind, switch_item_behind}
 use Rattle.c_checking_units.proofs.FaultPlaces.Tokens.{Tokens, back, comma_after, specifiers_behind, declarator_behind}
-use Rattle.c_undefined_places.proofs.Loose.{IsLoose, IsLoosePath, AreLooseParts, IsLooseInitializer, IsLooseInitial, IsLooseIfAny, IsLooseStatement}
+use Rattle.c_undefined_places.proofs.Loose.{IsLoose, AreLooseParts, IsLooseInitializer, IsLooseInitial, IsLooseIfAny, IsLooseStatement}
 use Rattle.c_undefined_places.proofs.Loose.{AreLooseStatements, AreLooseArms}
 use Rattle.c_undefined_places.proofs.ErasedExpressions as Expressions
 
@@ -99,6 +99,11 @@ module _ (Is : Place → Type 0) (number : ℕ) (zero_is : Is (record { file = n
   initializer_loose a s t initial rest i k (inl h) = subst (IsLooseInitializer Is) (sym h.1) (parts_loose a s t 0 _ rest i k h.3).0
   initializer_loose a s t initial rest i k (inr (inl h)) = subst (IsLooseInitializer Is) (sym h.1) (parts_loose a s t 0 _ rest i k h.4).0
   initializer_loose a s t initial rest i k (inr (inr h)) = subst (IsLooseInitializer Is) (sym h.1) (parts_loose a s t 0 h.0 rest i k h.3)
+
+  pub constants_loose : (value : Option (ℕ × Trees.Expression)) (s : Scope) (t : CType) (initial : Typed.Initializer Noted) (rest : List Lexeme)
+      → IsHere s → Tokens P (spelled_value value rest) → HasConstants s t value initial → IsLooseInitializer Is initial
+  constants_loose None s t initial rest i k h = subst (IsLooseInitializer Is) (sym h) tt
+  constants_loose (Some value) s t initial rest i k h = initializer_loose value.1 s t initial rest i (back k) h.0
 
   initial_loose : (value : Option (ℕ × Trees.Expression)) (s : Scope) (t : CType) (initial : Option (Typed.Initializer Noted)) (rest : List Lexeme)
       → IsHere s → Tokens P (spelled_value value rest) → HasInitializer s t value initial → IsLooseInitial Is initial

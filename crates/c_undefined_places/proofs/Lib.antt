@@ -9,3 +9,8 @@ pub mod StandingStatements
 pub mod StandingCalls
 pub mod PlacesOfUnits
 pub mod PlacesOfPrograms
+pub mod PlacedFacts
+pub mod PlacedBreaches
+pub mod PlacedOutside
+pub mod PlacedTold
+pub mod PlacedMentions

@@ -10,11 +10,11 @@ use Rattle.c_typed.specs.Mapped.{mapped_initializer}
 use Rattle.c_typed.specs.Mapped.{mapped_statement, mapped_statements, mapped_arms}
 use Rattle.c_typed.specs.Trees
 use Rattle.c_typed.specs.Typed.{Declared, at_of, IsTyped, IsTypedNode, AreArguments, IsCount, IsTypedPath, IsTypedStep}
-use Rattle.c_typed.specs.TypedStatements.{IsTypedValue, IsTypedPart, IsTypedInitializer, IsInitialized, IsCondition, IsEffect, IsReturned}
+use Rattle.c_typed.specs.TypedStatements.{IsTypedValue, IsTypedPart, IsInitialized, IsCondition, IsEffect, IsReturned}
 use Rattle.c_typed.specs.TypedStatements.{IsTypedStatement, AreTyped, AreTypedArms}
 use Rattle.c_erasure.specs.Noted.{Noted, Expression, Path, Node, PathNode}
 use Rattle.c_undefined_places.specs.Placed.{IsPlaced, IsPlacedNode, IsPlacedPath, IsPlacedStep, ArePlaced, IsPlacedCount, IsPlacedValue, ArePlacedParts}
-use Rattle.c_undefined_places.specs.Placed.{IsPlacedInitializer, IsPlacedInitial, IsPlacedIfAny, IsPlacedStatement, ArePlacedStatements, ArePlacedArms}
+use Rattle.c_undefined_places.specs.Placed.{IsPlacedInitial, IsPlacedIfAny, IsPlacedStatement, ArePlacedStatements, ArePlacedArms}
 
 -- each place is so but for those of implicit conversions
 module _ {T : Type 0} (Is : Place → Type 0) where
@@ -201,7 +201,7 @@ module _ (d : Declared) (Is : Place → Type 0) where
       let own = All-head (IsTypedPart d t) first typed k in
       (value_settled part.value own.0 own.2 h.0, parts_settled all t (All-tail (IsTypedPart d t) first typed k) h.1)
 
-  initial_settled : (i : Option (Trees.Initializer Noted)) (t : CType) → IsInitialized d t (option_map (mapped_initializer (of_types (λ t. t.ty))) i)
+  pub initial_settled : (i : Option (Trees.Initializer Noted)) (t : CType) → IsInitialized d t (option_map (mapped_initializer (of_types (λ t. t.ty))) i)
       → IsLooseInitial Is i → IsPlacedInitial Is i
   initial_settled None t k h = tt
   initial_settled (Some (Trees.whole e)) t k h = settled e k.0 h

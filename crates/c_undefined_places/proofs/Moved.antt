@@ -7,7 +7,7 @@ use Rattle.c_typed.specs.Mapped.{Renaming, mapped, mapped_node, mapped_path, map
 use Rattle.c_typed.specs.Mapped.{mapped_initializer, mapped_statement, mapped_statements, mapped_arms}
 use Rattle.c_typed.specs.Trees
 use Rattle.c_undefined_places.specs.Placed.{IsPlaced, IsPlacedNode, IsPlacedPath, IsPlacedStep, ArePlaced, IsPlacedCount, IsPlacedValue, ArePlacedParts}
-use Rattle.c_undefined_places.specs.Placed.{IsPlacedInitializer, IsPlacedInitial, IsPlacedIfAny, IsPlacedStatement, ArePlacedStatements, ArePlacedArms}
+use Rattle.c_undefined_places.specs.Placed.{IsPlacedInitial, IsPlacedIfAny, IsPlacedStatement, ArePlacedStatements, ArePlacedArms}
 
 module _ {T S : Type 0} (m : Renaming T S) (Is : Place → Type 0) where
   mutual
@@ -71,7 +71,7 @@ module _ {T S : Type 0} (m : Renaming T S) (Is : Place → Type 0) where
   parts_again [] h = tt
   parts_again (part ∷ all) h = (value_again part.value h.0, parts_again all h.1)
 
-  initial_again : (i : Option (Trees.Initializer T)) → IsPlacedInitial Is i → IsPlacedInitial Is (option_map (mapped_initializer m) i)
+  pub initial_again : (i : Option (Trees.Initializer T)) → IsPlacedInitial Is i → IsPlacedInitial Is (option_map (mapped_initializer m) i)
   initial_again None h = tt
   initial_again (Some (Trees.whole e)) h = again e h
   initial_again (Some (Trees.whole_record p)) h = path_again p h

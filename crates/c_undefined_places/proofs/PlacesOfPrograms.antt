@@ -6,8 +6,9 @@ use Rattle.std.specs.List.{AllByRecursion}
 use Rattle.std.specs.Option.{option_map}
 use Rattle.lay_base.specs.declared.place.Place.{Place}
 use Rattle.c_tokens.specs.TokenPlaces.{TokensHavePlaces, IsPlaceOf}
+use Rattle.c_facts.specs.Programs.{facts_of}
 use Rattle.c_typed.specs.Mapped.{Renaming, mapped_statement}
-use Rattle.c_typed.specs.Programs.{FunctionData, UnitData}
+use Rattle.c_typed.specs.Programs.{FunctionData, UnitData, ProgramData}
 use Rattle.c_typed.specs.Trees as Typed
 use Rattle.c_numbers.specs.NewNumbers.Parts.{function_in}
 use Rattle.c_checking_laws.specs.TextOrder.TextOrder.{TextsAreInOrder}
@@ -15,12 +16,17 @@ use Rattle.c_grammar.proofs.FirstPlaces.{trees_begin_first}
 use Rattle.c_joining.specs.Joining.{joined, renaming, tables, function_identities, functions, is_function_defined}
 use Rattle.c_link.proofs.JoinedRecords.{IsAmong}
 use Rattle.c_link.specs.Gaps.{HasMain}
+use Rattle.legality.specs.Breaches.{breach}
 use Rattle.c_well_typed.proofs.GapPlaces.PlacesOfUnits.{ArePlaced, each_unit_placed as each_unit_stands}
 use Rattle.c_well_typed.proofs.JoinedFunctions.{each_is, is_each}
 use Rattle.c_well_typed.proofs.LookedUp.{of_unit as found_unit, unit_among}
 use Rattle.c_undefined_places.specs.Laws.{ProgramsStandInFiles, UndefinedStepsStandInFiles}
+use Rattle.c_undefined_places.specs.Verdicts.{IsPlacedFact, FactsStandInFiles, ViolationsStandInFiles}
 use Rattle.c_undefined_places.specs.Placed.{IsPlacedStatement, IsPlacedFunction, FunctionsArePlaced}
 use Rattle.c_undefined_places.proofs.Moved.{statement_again}
+use Rattle.c_undefined_places.proofs.PlacedBreaches.{facts_placed, violations_placed}
+use Rattle.c_undefined_places.proofs.PlacedMentions.{each_unit_told}
+use Rattle.c_undefined_places.proofs.PlacedOutside.{FieldsArePlaced, fields_placed, mentions_placed}
 use Rattle.c_undefined_places.proofs.PlacesOfUnits.{HasPlacedBody, AreFunctionsPlaced, each_unit_placed}
 use Rattle.c_undefined_places.proofs.StandingCalls.{each_at, undefined_at}
 
@@ -49,6 +55,21 @@ programs_stand places texts files p h =
     subst (FunctionsArePlaced (IsPlaceOf files)) (sym h.program.joined_units)
     (functions_placed (IsPlaceOf files) h.units (each_unit_stands places trees_begin_first texts files h.units h.of_files)
     (each_unit_placed places files h.units h.of_files))
+
+pub facts_stand : TokensHavePlaces → TextsAreInOrder → FactsStandInFiles
+facts_stand places texts files p h =
+    All-from_recursion (IsPlacedFact (IsPlaceOf files)) (facts_of p) (facts_placed (IsPlaceOf files) p (programs_stand places texts files p h))
+
+pub violations_stand : TokensHavePlaces → TextsAreInOrder → ViolationsStandInFiles
+violations_stand places texts files p h number test place v =
+    let units = each_unit_stands places trees_begin_first texts files h.units h.of_files in
+    let told = each_unit_told places trees_begin_first texts files h.units h.of_files in
+    let fields = subst (λ (p : ProgramData). AllByRecursion (FieldsArePlaced (IsPlaceOf files)) p.records) (sym h.program.joined_units)
+    (fields_placed (IsPlaceOf files) h.units units) in
+    let mentions = subst (λ (p : ProgramData). AllByRecursion (λ m. IsPlaceOf files m.place) p.mentions) (sym h.program.joined_units)
+    (mentions_placed (IsPlaceOf files) h.units told) in
+    violations_placed (IsPlaceOf files) p (programs_stand places texts files p h) mentions fields
+    (breach number (record { test = test; place = place })) v
 
 has_body : (body : Option (Typed.Statement ℕ)) → is_some body ≡ true → (s : Typed.Statement ℕ) × (body ≡ Some s)
 has_body None h = cc

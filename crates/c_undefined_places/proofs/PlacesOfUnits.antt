@@ -1,5 +1,5 @@
 -- The bodies of the functions of a file's unit stand at places of its text: those of the tokens of the file.
-use Rattle.std.proofs.Common.{◌≡◌, ◌∙◌, ℕ, zero, suc, ◌+◌, ◌≤◌, false, refl, sym, ap, subst, List, [], ◌∷◌, ◌++◌, length, map, inl, inr, Some, None, arith}
+use Rattle.std.proofs.Common.{◌≡◌, ◌∙◌, ℕ, suc, ◌+◌, ◌≤◌, false, refl, sym, subst, List, [], ◌∷◌, ◌++◌, length, map, inl, inr, Some, None, arith}
 use Rattle.std.proofs.Common.{append_assoc, length-append}
 use Rattle.std.specs.Prelude.{◌⊎◌, Option, IfSome, slice_get}
 use Rattle.std.specs.List.{AllByRecursion}
@@ -28,7 +28,7 @@ use Rattle.c_link.specs.Programs.{IsUnitOfFile, AreUnitsOf}
 use Rattle.c_well_typed.proofs.GapPlaces.Everywhere.{each_of, behind}
 use Rattle.c_well_typed.proofs.UnitFunctions.{records_ended}
 use Rattle.c_well_typed.proofs.ItemFunctions.{HoldsIn, function_holds}
-use Rattle.c_undefined_places.specs.Placed.{IsPlacedStatement, ArePlacedStatements}
+use Rattle.c_undefined_places.specs.Placed.{IsPlacedStatement}
 use Rattle.c_undefined_places.proofs.ErasedStatements.{items_loose}
 use Rattle.c_undefined_places.proofs.Loose.{statements_settled}
 use Rattle.c_undefined_places.proofs.Moved.{statement_again}

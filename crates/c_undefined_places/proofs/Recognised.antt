@@ -6,9 +6,7 @@ use Rattle.lay_base.specs.declared.place.Place.{Place}
 use Rattle.c_types.specs.declared.ty.IntKind.TheVariants.{UInt}
 use Rattle.c_types.specs.Sameness.{same_type}
 use Rattle.c_types.specs.Types.{CType, void, integer, pointer, array, function, structure}
-use Rattle.c_typed.specs.declared.operators.BinaryOp.{BinaryOp}
 use Rattle.c_typed.specs.declared.operators.BinaryOp.TheVariants.{Multiply}
-use Rattle.c_typed.specs.declared.operators.LibraryFunction.{LibraryFunction}
 use Rattle.c_typed.specs.declared.operators.LibraryFunction.TheVariants.{Malloc, Calloc}
 use Rattle.c_typed.specs.Trees
 use Rattle.c_erasure.specs.Noted.{Noted, Note, nothing, size_of, Expression, Path, Node, PathNode, unless_noted, unconverted}
@@ -16,7 +14,7 @@ use Rattle.c_erasure.specs.Recognised.{is_note_of, is_size, as_unsigned_from, as
 use Rattle.c_erasure.specs.Recognised.{converted, recognised, recognised_node, recognised_path, recognised_step, recognised_all}
 use Rattle.c_erasure.specs.Units.{recognised_value, recognised_part, recognised_initializer, recognised_statement, recognised_statements, recognised_arms}
 use Rattle.c_undefined_places.specs.Placed.{IsPlaced, IsPlacedNode, IsPlacedPath, IsPlacedStep, ArePlaced, IsPlacedCount, IsPlacedValue, ArePlacedParts}
-use Rattle.c_undefined_places.specs.Placed.{IsPlacedInitializer, IsPlacedInitial, IsPlacedIfAny, IsPlacedStatement, ArePlacedStatements, ArePlacedArms}
+use Rattle.c_undefined_places.specs.Placed.{IsPlacedInitial, IsPlacedIfAny, IsPlacedStatement, ArePlacedStatements, ArePlacedArms}
 
 module _ (Is : Place → Type 0) where
   -- ---- allocations
@@ -152,7 +150,7 @@ module _ (Is : Place → Type 0) where
   parts_again [] h = tt
   parts_again (part ∷ all) h = (value_again part.value h.0, parts_again all h.1)
 
-  initial_again : (i : Option (Trees.Initializer Noted)) → IsPlacedInitial Is i → IsPlacedInitial Is (option_map recognised_initializer i)
+  pub initial_again : (i : Option (Trees.Initializer Noted)) → IsPlacedInitial Is i → IsPlacedInitial Is (option_map recognised_initializer i)
   initial_again None h = tt
   initial_again (Some (Trees.whole e)) h = again e h
   initial_again (Some (Trees.whole_record p)) h = path_again p h

@@ -1,5 +1,5 @@
 -- Where an end of a run is undefined, its place is so, if that holds of what the rest of the run comes to: of each operation on a world.
-use Rattle.std.proofs.Common.{ℕ, zero, suc, ◌+◌, ◌-◌, ◌%◌, ◌^◌, Bool, true, false, List, [], ◌∷◌, Option, Some, None, Ok, Err, if◌then◌else◌, nat_lt}
+use Rattle.std.proofs.Common.{ℕ, zero, suc, ◌+◌, ◌-◌, ◌%◌, ◌^◌, Bool, true, false, List, [], ◌∷◌, Option, None, Ok, Err, if◌then◌else◌, nat_lt}
 use Rattle.std.specs.Prelude.{◌&&◌}
 use Rattle.lay_base.specs.declared.faults.UndefinedKind.{UndefinedKind}
 use Rattle.lay_base.specs.declared.place.Place.{Place}
@@ -13,7 +13,7 @@ use Rattle.block_memory.specs.Lifetimes.{is_heap, with_end}
 use Rattle.block_memory.specs.Lifetimes as Lifetimes
 use Rattle.block_memory.specs.Ranges as Ranges
 use Rattle.block_memory.specs.Tested.{Tested}
-use Rattle.block_memory.specs.RunWorlds.Doing.{Rest, Doing, ◌>>=◌, ◌>>◌, pure, is_undefined, tested, memory_now, with_memory, note, turn_of, turn, make, end}
+use Rattle.block_memory.specs.RunWorlds.Doing.{Rest, Doing, ◌>>=◌, pure, is_undefined, tested, memory_now, with_memory, note, turn_of, turn, make, end}
 use Rattle.block_memory.specs.RunWorlds.Doing.{deeper, leave}
 use Rattle.block_memory.specs.RunWorlds.Doing.{apart}
 use Rattle.block_memory.specs.RunWorlds.Events.{Event, put, got, allocated, freed, loaded, stored}

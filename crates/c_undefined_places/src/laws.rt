@@ -1,6 +1,7 @@
 //! Laws about the places of a program and of its undefined steps.
 
 ghost use Rattle.c_undefined_places.specs.Laws.{ProgramsStandInFiles, UndefinedStepsStandInFiles};
+ghost use Rattle.c_undefined_places.specs.Verdicts.{FactsStandInFiles, ViolationsStandInFiles};
 
 use c_checking_laws::texts_are_in_order;
 use c_lexer::tokens_have_places;
@@ -17,6 +18,22 @@ pub fn programs_stand_in_files()
 /// Where a run of the program of some files is undefined, the place of that step is one of the file of its number, and there are tokens before it.
 pub fn undefined_steps_stand_in_files()
     ensures { UndefinedStepsStandInFiles }
+{
+    tokens_have_places();
+    texts_are_in_order();
+}
+
+/// What the functions of the program of some files say of types and of records stands at such places.
+pub fn facts_stand_in_files()
+    ensures { FactsStandInFiles }
+{
+    tokens_have_places();
+    texts_are_in_order();
+}
+
+/// Where a record of the program of some files violates a test, it does so at such a place. So the place that a verdict names has a line.
+pub fn violations_stand_in_files()
+    ensures { ViolationsStandInFiles }
 {
     tokens_have_places();
     texts_are_in_order();

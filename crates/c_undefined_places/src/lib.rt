@@ -1,9 +1,13 @@
-//! Undefined steps of the program of some files stand at places of these files, with tokens before them.
+//! The places that a program names stand in its files, with tokens before them: those of its functions and of what stands in them, of undefined steps of its
+//! runs, and of violations of records.
 //!
-//! It stands on `c_checking_units`, which has the tokens of a part of a tree, on `c_link` for the programs of files, on `c_well_typed`
-//! for their functions, and on `c_meaning` for runs. It has laws alone.
+//! It stands on `c_checking_units`, which has the tokens of a part of a tree, on `c_link` for the programs of files, on `c_well_typed` for their functions and
+//! objects, on `c_meaning` for runs, and on `c_facts` and `legality` for what records violate. It has laws alone.
 #![tactic(auto)]
 
 mod laws;
 
-pub use laws::{programs_stand_in_files, undefined_steps_stand_in_files};
+pub use laws::{
+    facts_stand_in_files, programs_stand_in_files, undefined_steps_stand_in_files,
+    violations_stand_in_files,
+};

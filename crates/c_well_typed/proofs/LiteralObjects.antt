@@ -19,7 +19,7 @@ use Rattle.c_erasure.specs.Noted.{Noted, Expression, Path, Thing, an_object, typ
 use Rattle.c_erasure.specs.Scopes.{AnObject, FileScope, Scope, in_full}
 use Rattle.c_erasure.specs.Statements.{HasInitializer, HasConstants}
 use Rattle.c_well_typed.proofs.InitialStores.{AreBytes, HaveBytes, HoldsBytes}
-use Rattle.c_well_typed.proofs.TokenBytes.{AreOfBytes, literal_of_bytes, behind_comma, behind, behind_type}
+use Rattle.c_well_typed.proofs.TokenBytes.{AreOfBytes, Anywhere, literal_of_bytes, behind_comma, behind, behind_type}
 
 some_is : {A : Type 0} (x y : A) → Some x ≡ Some y → x ≡ y
 some_is x y h = cc
@@ -31,17 +31,22 @@ Holds o = (i : Typed.Initializer Noted) → o.initial ≡ Some i → HoldsBytes 
 abbrev pub IsTextual : AnObject → Type 0
 IsTextual o = (bytes : List ℕ) → o.literal ≡ Some bytes → (n : ℕ) × (o.ty ≡ array (integer Char) n)
 
--- the object that begins there holds bytes, or none begins there
-abbrev pub IsAccounted : FileScope → ℕ → Type 0
-IsAccounted f at = ((n : ℕ) × (o : AnObject) × (slice_get f.objects n ≡ Some o) × (o.first ≡ at) × Holds o × IsTextual o)
+-- what is wanted of an initializer, of that of an object
+abbrev pub IsGood : (Typed.Initializer Noted → Type 0) → AnObject → Type 0
+IsGood Good o = (i : Typed.Initializer Noted) → o.initial ≡ Some i → Good i
+
+-- the object that begins there holds bytes, and what is wanted, or none begins there
+abbrev pub IsAccounted : (Typed.Initializer Noted → Type 0) → FileScope → ℕ → Type 0
+IsAccounted Good f at = ((n : ℕ) × (o : AnObject) × (slice_get f.objects n ≡ Some o) × (o.first ≡ at) × Holds o × IsTextual o × IsGood Good o)
     ⊎ All (λ o. o.first ≢ at) f.objects
 
-abbrev pub AreAccounted : FileScope → List ℕ → Type 0
-AreAccounted f places = AllByRecursion (IsAccounted f) places
+abbrev pub AreAccounted : (Typed.Initializer Noted → Type 0) → FileScope → List ℕ → Type 0
+AreAccounted Good f places = AllByRecursion (IsAccounted Good f) places
 
-pub join : (f : FileScope) (u v : List ℕ) → AreAccounted f u → AreAccounted f v → AreAccounted f (u ++ v)
-join f [] v h k = k
-join f (x ∷ u) v h k = (h.0, join f u v h.1 k)
+pub join : (Good : Typed.Initializer Noted → Type 0) (f : FileScope) (u v : List ℕ) → AreAccounted Good f u → AreAccounted Good f v
+    → AreAccounted Good f (u ++ v)
+join Good f [] v h k = k
+join Good f (x ∷ u) v h k = (h.0, join Good f u v h.1 k)
 
 have_both : (u v : List Part) → HaveBytes u → HaveBytes v → HaveBytes (u ++ v)
 have_both [] v h k = k
@@ -55,13 +60,27 @@ first_bytes (x ∷ u) v h = (h.0, first_bytes u v h.1)
 pub holds : (o : AnObject) (i : Typed.Initializer Noted) → o.initial ≡ Some i → HoldsBytes i → Holds o
 holds o i e h j k = subst HoldsBytes (some_is i j (sym e ∙ k)) h
 
-module _ (f : FileScope) where
-  -- what stands in a function or an initializer, and is evaluated
-  abbrev pub IsFull : Scope → Type 0
-  IsFull s = (s.file ≡ f) × (s.purpose ≡ in_full)
+pub is_good : (Good : Typed.Initializer Noted → Type 0) (o : AnObject) (i : Typed.Initializer Noted) → o.initial ≡ Some i → Good i → IsGood Good o
+is_good Good o i e h j k = subst Good (some_is i j (sym e ∙ k)) h
 
-  literal_accounted : (s : Scope) (all : List Spelling) (th : Thing) → IsFull s → AreBytes (literal_of all)
-      → IsLiteralFor s.purpose s (place_in s (first_text all)) (literal_of all) th → AreAccounted f (first_text all ∷ [])
+-- what stands in a function or an initializer, and is evaluated
+abbrev pub IsFull : FileScope → Scope → Type 0
+IsFull f s = (s.file ≡ f) × (s.purpose ≡ in_full)
+
+-- initializers have what is wanted: those of literals, zeros, and those that are written, where their tokens stand at such places
+pub record AreGood (P : ℕ → Type 0) (Good : Typed.Initializer Noted → Type 0) (f : FileScope) : Type 0 where
+  pub of_text : (bytes : List ℕ) → Good (Typed.parts (record { offset = 0; value = Typed.text bytes } ∷ []))
+  pub of_zero : Good (Typed.parts [])
+  pub of_value : (value : Option (ℕ × Trees.Expression)) (s : Scope) (t : CType) (i : Typed.Initializer Noted) (rest : List Lexeme) → IsFull f s
+      → AreOfBytes P (spelled_value value rest) → HasConstants s t value i → Good i
+
+-- nothing is
+pub any_good : (f : FileScope) → AreGood Anywhere (λ i. Unit {0}) f
+any_good f = record { of_text = λ bytes. tt; of_zero = tt; of_value = λ value s t i rest e b h. tt }
+
+module _ {P : ℕ → Type 0} {Good : Typed.Initializer Noted → Type 0} (f : FileScope) (good : AreGood P Good f) where
+  literal_accounted : (s : Scope) (all : List Spelling) (th : Thing) → IsFull f s → AreBytes (literal_of all)
+      → IsLiteralFor s.purpose s (place_in s (first_text all)) (literal_of all) th → AreAccounted Good f (first_text all ∷ [])
   literal_accounted s all th e b h =
       let k = subst (λ p. IsLiteralFor p s (place_in s (first_text all)) (literal_of all) th) e.1 h in
       let o = literal_object (place_in s (first_text all)) (literal_of all) in (
@@ -72,26 +91,27 @@ module _ (f : FileScope) where
           refl,
           holds o (Typed.parts (record { offset = 0; value = Typed.text (literal_of all) } ∷ [])) refl (b, tt),
           λ bytes e. (length (literal_of all), refl),
+          is_good Good o _ refl (good.of_text (literal_of all)),
         ),
         tt,
       )
 
   mutual
-    pub accounted : (a : Trees.Expression) (s : Scope) (th : Thing) (rest : List Lexeme) → IsFull s → AreOfBytes (spelled a rest) → Erases a s th
-        → AreAccounted f (literals a)
+    pub accounted : (a : Trees.Expression) (s : Scope) (th : Thing) (rest : List Lexeme) → IsFull f s → AreOfBytes P (spelled a rest) → Erases a s th
+        → AreAccounted Good f (literals a)
     accounted (Trees.name x) s th rest e b h = tt
     accounted (Trees.number x n kind) s th rest e b h = tt
     accounted (Trees.character x n) s th rest e b h = tt
-    accounted (Trees.texts all) s th rest e b h = literal_accounted s all th e (literal_of_bytes all rest b) h
+    accounted (Trees.texts all) s th rest e b h = literal_accounted s all th e (literal_of_bytes P all rest b) h
     accounted (Trees.paren left a right) s th rest e b h = accounted a s th _ e b.1 h
     accounted (Trees.index a left c right) s th rest e b (inl h) =
-        join f (literals a) (literals c) (accounted a s _ _ e b h.5) (accounted c s _ _ e (behind a _ b).1 h.6.2)
+        join Good f (literals a) (literals c) (accounted a s _ _ e b h.5) (accounted c s _ _ e (behind P a _ b).1 h.6.2)
     accounted (Trees.index a left c right) s th rest e b (inr (inl h)) =
-        join f (literals a) (literals c) (accounted a s _ _ e b h.4.2) (accounted c s _ _ e (behind a _ b).1 h.5.2)
+        join Good f (literals a) (literals c) (accounted a s _ _ e b h.4.2) (accounted c s _ _ e (behind P a _ b).1 h.5.2)
     accounted (Trees.index a left c right) s th rest e b (inr (inr h)) =
-        join f (literals a) (literals c) (accounted a s _ _ e b h.5.2) (accounted c s _ _ e (behind a _ b).1 h.6.2)
+        join Good f (literals a) (literals c) (accounted a s _ _ e b h.5.2) (accounted c s _ _ e (behind P a _ b).1 h.6.2)
     accounted (Trees.call g left all right) s th rest e b h =
-        join f (literals g) (literals_of_all all) (accounted g s h.1 _ e b h.4) (all_accounted all s h.2 _ e (behind g _ b).1 h.5)
+        join Good f (literals g) (literals_of_all all) (accounted g s h.1 _ e b h.4) (all_accounted all s h.2 _ e (behind P g _ b).1 h.5)
     accounted (Trees.dot a at x) s th rest e b h = accounted a s _ _ e b h.6
     accounted (Trees.arrow a at x) s th rest e b h = accounted a s _ _ e b h.6.2
     accounted (Trees.post a op at) s th rest e b h = accounted a s _ _ e b h.3
@@ -104,39 +124,39 @@ module _ (f : FileScope) where
     accounted (Trees.unary U.Not at a) s th rest e b h = accounted a s _ _ e b.1 h.3.2
     accounted (Trees.sizeof_expression at a) s th rest e b h = tt
     accounted (Trees.sizeof_type at left n right) s th rest e b h = tt
-    accounted (Trees.cast left n right a) s th rest e b h = accounted a s _ _ e (behind_type n _ b.1).1 h.4.2
+    accounted (Trees.cast left n right a) s th rest e b h = accounted a s _ _ e (behind_type P n _ b.1).1 h.4.2
     accounted (Trees.binary a op at c) s th rest e b h =
-        join f (literals a) (literals c) (accounted a s _ _ e b h.4.2) (accounted c s _ _ e (behind a _ b).1 h.5.2)
+        join Good f (literals a) (literals c) (accounted a s _ _ e b h.4.2) (accounted c s _ _ e (behind P a _ b).1 h.5.2)
     accounted (Trees.cond a question c colon d) s th rest e b h =
-        let k = behind a _ b in
-        join f (literals a ++ literals c) (literals d)
-        (join f (literals a) (literals c) (accounted a s _ _ e b h.5.2) (accounted c s _ _ e k.1 h.6.2))
-        (accounted d s _ _ e (behind c _ k.1).1 h.7.2)
+        let k = behind P a _ b in
+        join Good f (literals a ++ literals c) (literals d)
+        (join Good f (literals a) (literals c) (accounted a s _ _ e b h.5.2) (accounted c s _ _ e k.1 h.6.2))
+        (accounted d s _ _ e (behind P c _ k.1).1 h.7.2)
     accounted (Trees.assign a op at c) s th rest e b (inl h) =
-        join f (literals a) (literals c) (accounted a s _ _ e b h.5) (accounted c s _ _ e (behind a _ b).1 h.6.2)
+        join Good f (literals a) (literals c) (accounted a s _ _ e b h.5) (accounted c s _ _ e (behind P a _ b).1 h.6.2)
     accounted (Trees.assign a op at c) s th rest e b (inr (inl h)) =
-        join f (literals a) (literals c) (accounted a s _ _ e b h.5) (accounted c s _ _ e (behind a _ b).1 h.6)
+        join Good f (literals a) (literals c) (accounted a s _ _ e b h.5) (accounted c s _ _ e (behind P a _ b).1 h.6)
     accounted (Trees.assign a op at c) s th rest e b (inr (inr h)) =
-        join f (literals a) (literals c) (accounted a s _ _ e b h.6) (accounted c s _ _ e (behind a _ b).1 h.7.2)
+        join Good f (literals a) (literals c) (accounted a s _ _ e b h.6) (accounted c s _ _ e (behind P a _ b).1 h.7.2)
     accounted (Trees.comma a at c) s th rest e b h =
-        join f (literals a) (literals c) (accounted a s _ _ e b h.4.2) (accounted c s _ _ e (behind a _ b).1 h.5.2)
+        join Good f (literals a) (literals c) (accounted a s _ _ e b h.4.2) (accounted c s _ _ e (behind P a _ b).1 h.5.2)
     accounted (Trees.braces left all comma right) s th rest e b h = absurd h
 
-    all_accounted : (all : Trees.Arguments) (s : Scope) (xs : Typed.Expressions Noted) (rest : List Lexeme) → IsFull s
-        → AreOfBytes (spelled_arguments all rest) → AreValues s xs all → AreAccounted f (literals_of_all all)
+    all_accounted : (all : Trees.Arguments) (s : Scope) (xs : Typed.Expressions Noted) (rest : List Lexeme) → IsFull f s
+        → AreOfBytes P (spelled_arguments all rest) → AreValues s xs all → AreAccounted Good f (literals_of_all all)
     all_accounted Trees.no_arguments s xs rest e b h = tt
     all_accounted (Trees.and_argument comma a more) s xs rest e b h =
-        let k = behind_comma comma _ b in
-        join f (literals a) (literals_of_all more) (accounted a s _ _ e k h.3.2) (all_accounted more s h.1 _ e (behind a _ k) h.4)
+        let k = behind_comma P comma _ b in
+        join Good f (literals a) (literals_of_all more) (accounted a s _ _ e k h.3.2) (all_accounted more s h.1 _ e (behind P a _ k) h.4)
 
-  pub value_accounted : (a : Trees.Expression) (s : Scope) (x : Expression) (rest : List Lexeme) → IsFull s → AreOfBytes (spelled a rest)
-      → Values (Erases a s) x → AreAccounted f (literals a)
+  pub value_accounted : (a : Trees.Expression) (s : Scope) (x : Expression) (rest : List Lexeme) → IsFull f s → AreOfBytes P (spelled a rest)
+      → Values (Erases a s) x → AreAccounted Good f (literals a)
   value_accounted a s x rest e b h = accounted a s h.0 rest e b h.2
 
   -- ---- initializers
 
   abbrev AreHeld : List Part → List ℕ → Type 0
-  AreHeld parts places = HaveBytes parts × AreAccounted f places
+  AreHeld parts places = HaveBytes parts × AreAccounted Good f places
 
   text_bytes : (t : CType) (all : List Spelling) (bytes : List ℕ) → AreBytes (literal_of all) → IsTextOf t all bytes → AreBytes bytes
   text_bytes t all bytes b h = by_length h.4
@@ -145,23 +165,23 @@ module _ (f : FileScope) where
       by_length (inl e) = subst AreBytes e.0 b
       by_length (inr e) = first_bytes bytes (0 ∷ []) (subst AreBytes e.0 b)
 
-  text_held : (all : List Spelling) (s : Scope) (t : CType) (at : ℕ) (parts : List Part) → IsFull s → AreBytes (literal_of all) → IsText (Some all) s t at parts
+  text_held : (all : List Spelling) (s : Scope) (t : CType) (at : ℕ) (parts : List Part) → IsFull f s → AreBytes (literal_of all) → IsText (Some all) s t at parts
       → AreHeld parts (first_text all ∷ [])
   text_held all s t at parts e b h =
       (subst HaveBytes (sym h.3) (text_bytes t all h.0 b h.1, tt), (inr (subst (λ (f : FileScope). All (λ o. o.first ≢ first_text all) f.objects) e.0 h.2), tt))
 
   in_braces : (left : ℕ) (all : Trees.Arguments) (last : Option ℕ) (right : ℕ) (s : Scope) (t : CType) (at : ℕ) (parts : List Part) (rest : List Lexeme)
-      → IsFull s → AreOfBytes (spelled_arguments all rest) → IsText (texts_of (Trees.braces left all last right)) s t at parts
+      → IsFull f s → AreOfBytes P (spelled_arguments all rest) → IsText (texts_of (Trees.braces left all last right)) s t at parts
       → AreHeld parts (literals_of_all all)
   in_braces left Trees.no_arguments last right s t at parts rest e b h = absurd h
   in_braces left (Trees.and_argument comma (Trees.texts all) Trees.no_arguments) last right s t at parts rest e b h =
-      text_held all s t at parts e (literal_of_bytes all _ (behind_comma comma _ b)) h
+      text_held all s t at parts e (literal_of_bytes P all _ (behind_comma P comma _ b)) h
   in_braces left (Trees.and_argument comma (Trees.texts all) (Trees.and_argument second c more)) last right s t at parts rest e b h = absurd h
   in_braces left (Trees.and_argument comma a more) last right s t at parts rest e b h = absurd h
 
-  single_text : (a : Trees.Expression) (s : Scope) (t : CType) (at : ℕ) (parts : List Part) (rest : List Lexeme) → IsFull s → AreOfBytes (spelled a rest)
+  single_text : (a : Trees.Expression) (s : Scope) (t : CType) (at : ℕ) (parts : List Part) (rest : List Lexeme) → IsFull f s → AreOfBytes P (spelled a rest)
       → IsText (texts_of a) s t at parts → AreHeld parts (literals a)
-  single_text (Trees.texts all) s t at parts rest e b h = text_held all s t at parts e (literal_of_bytes all rest b) h
+  single_text (Trees.texts all) s t at parts rest e b h = text_held all s t at parts e (literal_of_bytes P all rest b) h
   single_text (Trees.braces left all last right) s t at parts rest e b h = in_braces left all last right s t at parts _ e b.1 h
   single_text a s t at parts rest e b h = absurd h
 
@@ -173,21 +193,21 @@ module _ (f : FileScope) where
       × (parts ≡ part_at at (Typed.record_of p)) × Erases a s (an_object p))
       ⊎ IsText (texts_of a) s t at parts
 
-  single : (a : Trees.Expression) (s : Scope) (t : CType) (at : ℕ) (parts : List Part) (rest : List Lexeme) → IsFull s → AreOfBytes (spelled a rest)
+  single : (a : Trees.Expression) (s : Scope) (t : CType) (at : ℕ) (parts : List Part) (rest : List Lexeme) → IsFull f s → AreOfBytes P (spelled a rest)
       → IsSingle a s t at parts → AreHeld parts (literals a)
   single a s t at parts rest e b (inl h) = (subst HaveBytes (sym h.3) (tt, tt), value_accounted a s h.0 rest e b h.4)
   single a s t at parts rest e b (inr (inl h)) = (subst HaveBytes (sym h.4) (tt, tt), accounted a s (an_object h.1) rest e b h.5)
   single a s t at parts rest e b (inr (inr h)) = single_text a s t at parts rest e b h
 
-  one_value : (all : Trees.Arguments) (s : Scope) (x : Expression) (rest : List Lexeme) → IsFull s → AreOfBytes (spelled_arguments all rest)
-      → IsOneValue all s x → AreAccounted f (literals_of_all all)
+  one_value : (all : Trees.Arguments) (s : Scope) (x : Expression) (rest : List Lexeme) → IsFull f s → AreOfBytes P (spelled_arguments all rest)
+      → IsOneValue all s x → AreAccounted Good f (literals_of_all all)
   one_value Trees.no_arguments s x rest e b h = absurd h
   one_value (Trees.and_argument comma a Trees.no_arguments) s x rest e b h =
-      join f (literals a) [] (value_accounted a s x _ e (behind_comma comma _ b) h) tt
+      join Good f (literals a) [] (value_accounted a s x _ e (behind_comma P comma _ b) h) tt
   one_value (Trees.and_argument comma a (Trees.and_argument second c more)) s x rest e b h = absurd h
 
   mutual
-    parts_held : (a : Trees.Expression) (s : Scope) (t : CType) (at : ℕ) (parts : List Part) (rest : List Lexeme) → IsFull s → AreOfBytes (spelled a rest)
+    parts_held : (a : Trees.Expression) (s : Scope) (t : CType) (at : ℕ) (parts : List Part) (rest : List Lexeme) → IsFull f s → AreOfBytes P (spelled a rest)
         → Initializes a s t at parts → AreHeld parts (literals a)
     parts_held (Trees.braces left all last right) s t at parts rest e b (inl h) =
         (subst HaveBytes (sym h.3) (tt, tt), one_value all s h.0 _ e b.1 h.4)
@@ -196,40 +216,40 @@ module _ (f : FileScope) where
     parts_held (Trees.braces left all last right) s t at parts rest e b (inr (inr (inr h))) = in_braces left all last right s t at parts _ e b.1 h
     parts_held a s t at parts rest e b h = single a s t at parts rest e b h
 
-    elements_held : (all : Trees.Arguments) (s : Scope) (u : CType) (n at : ℕ) (parts : List Part) (rest : List Lexeme) → IsFull s
-        → AreOfBytes (spelled_arguments all rest) → InitializeElements all s u n at parts → AreHeld parts (literals_of_all all)
+    elements_held : (all : Trees.Arguments) (s : Scope) (u : CType) (n at : ℕ) (parts : List Part) (rest : List Lexeme) → IsFull f s
+        → AreOfBytes P (spelled_arguments all rest) → InitializeElements all s u n at parts → AreHeld parts (literals_of_all all)
     elements_held Trees.no_arguments s u n at parts rest e b h = (subst HaveBytes (sym h) tt, tt)
     elements_held (Trees.and_argument comma a more) s u n at parts rest e b h =
-        let k = behind_comma comma _ b in
+        let k = behind_comma P comma _ b in
         let p = parts_held a s u at h.1 _ e k h.5 in
-        let q = elements_held more s u h.0 _ h.2 _ e (behind a _ k) h.6 in
-        (subst HaveBytes (sym h.4) (have_both h.1 h.2 p.0 q.0), join f (literals a) (literals_of_all more) p.1 q.1)
+        let q = elements_held more s u h.0 _ h.2 _ e (behind P a _ k) h.6 in
+        (subst HaveBytes (sym h.4) (have_both h.1 h.2 p.0 q.0), join Good f (literals a) (literals_of_all more) p.1 q.1)
 
-    fields_held : (all : Trees.Arguments) (s : Scope) (r k : ℕ) (fields : List Field) (at : ℕ) (parts : List Part) (rest : List Lexeme) → IsFull s
-        → AreOfBytes (spelled_arguments all rest) → InitializeFields all s r k fields at parts → AreHeld parts (literals_of_all all)
+    fields_held : (all : Trees.Arguments) (s : Scope) (r k : ℕ) (fields : List Field) (at : ℕ) (parts : List Part) (rest : List Lexeme) → IsFull f s
+        → AreOfBytes P (spelled_arguments all rest) → InitializeFields all s r k fields at parts → AreHeld parts (literals_of_all all)
     fields_held Trees.no_arguments s r k fields at parts rest e b h = (subst HaveBytes (sym h) tt, tt)
     fields_held (Trees.and_argument comma a more) s r k fields at parts rest e b h =
-        let c = behind_comma comma _ b in
+        let c = behind_comma P comma _ b in
         let p = parts_held a s h.0.ty _ h.2 _ e c h.6 in
-        let q = fields_held more s r (k + 1) h.1 at h.3 _ e (behind a _ c) h.7 in
-        (subst HaveBytes (sym h.5) (have_both h.2 h.3 p.0 q.0), join f (literals a) (literals_of_all more) p.1 q.1)
+        let q = fields_held more s r (k + 1) h.1 at h.3 _ e (behind P a _ c) h.7 in
+        (subst HaveBytes (sym h.5) (have_both h.2 h.3 p.0 q.0), join Good f (literals a) (literals_of_all more) p.1 q.1)
 
   abbrev IsHeld : Typed.Initializer Noted → List ℕ → Type 0
-  IsHeld i places = HoldsBytes i × AreAccounted f places
+  IsHeld i places = HoldsBytes i × AreAccounted Good f places
 
-  whole_held : (a : Trees.Expression) (s : Scope) (t : CType) (i : Typed.Initializer Noted) (rest : List Lexeme) → IsFull s → AreOfBytes (spelled a rest)
+  whole_held : (a : Trees.Expression) (s : Scope) (t : CType) (i : Typed.Initializer Noted) (rest : List Lexeme) → IsFull f s → AreOfBytes P (spelled a rest)
       → IsInitializer a s t i → IsHeld i (literals a)
   whole_held a s t i rest e b (inl h) = (subst HoldsBytes (sym h.1) tt, (parts_held a s t 0 _ rest e b h.3).1)
   whole_held a s t i rest e b (inr (inl h)) = (subst HoldsBytes (sym h.1) tt, (parts_held a s t 0 _ rest e b h.4).1)
   whole_held a s t i rest e b (inr (inr h)) =
       let k = parts_held a s t 0 h.0 rest e b h.3 in (subst HoldsBytes (sym h.1) k.0, k.1)
 
-  pub constants_held : (value : Option (ℕ × Trees.Expression)) (s : Scope) (t : CType) (i : Typed.Initializer Noted) (rest : List Lexeme) → IsFull s
-      → AreOfBytes (spelled_value value rest) → HasConstants s t value i → IsHeld i (literals_of_value value)
+  pub constants_held : (value : Option (ℕ × Trees.Expression)) (s : Scope) (t : CType) (i : Typed.Initializer Noted) (rest : List Lexeme) → IsFull f s
+      → AreOfBytes P (spelled_value value rest) → HasConstants s t value i → IsHeld i (literals_of_value value)
   constants_held None s t i rest e b h = (subst HoldsBytes (sym h) tt, tt)
   constants_held (Some value) s t i rest e b h = whole_held value.1 s t i rest e b.1 h.0
 
   pub initial_accounted : (value : Option (ℕ × Trees.Expression)) (s : Scope) (t : CType) (o : Option (Typed.Initializer Noted)) (rest : List Lexeme)
-      → IsFull s → AreOfBytes (spelled_value value rest) → HasInitializer s t value o → AreAccounted f (literals_of_value value)
+      → IsFull f s → AreOfBytes P (spelled_value value rest) → HasInitializer s t value o → AreAccounted Good f (literals_of_value value)
   initial_accounted None s t o rest e b h = tt
   initial_accounted (Some value) s t o rest e b h = (whole_held value.1 s t h.0 rest e b.1 h.2).1

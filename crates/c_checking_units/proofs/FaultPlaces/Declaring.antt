@@ -22,7 +22,8 @@ use Rattle.c_erasure.specs.Checking.Answers.{Answer}
 use Rattle.c_erasure.specs.Checking.Nodes.{is_complete}
 use Rattle.c_erasure.specs.Checking.Declaring as D
 use Rattle.c_checking_units.specs.FaultPlaces.Places.{Stands}
-use Rattle.c_checking_units.proofs.FaultPlaces.Given.{Gives, Stops, InFile, AreAt, IsAt, IsIn, found, fails, refuses, then, chosen, all_one}
+use Rattle.c_checking_units.proofs.FaultPlaces.Given.{Gives, Stops, InFile, AreFieldsAt, AreAt, IsAt, IsIn, found, fails, refuses, then, chosen}
+use Rattle.c_checking_units.proofs.FaultPlaces.Given.{all_one, all_put}
 use Rattle.c_checking_units.proofs.FaultPlaces.Firsts.{Names, IsNameAt}
 
 -- ---- files in which more is declared
@@ -35,15 +36,17 @@ module _ {number : ℕ} {P : ℕ → Type 0} where
   said_or_not true f g p q = p
   said_or_not false f g p q = q
 
-  pub mentioned : (s : Scope) (before : ℕ) (kind : MentionKind) (t : CType) (at : ℕ) (f : FileScope) → AreAt number P f
+  pub mentioned : (s : Scope) (before : ℕ) (kind : MentionKind) (t : CType) (at : ℕ) (f : FileScope) → AreAt number P f → P at
       → AreAt number P (D.with_mention s before kind t at f)
-  mentioned s before kind t at f p = said_or_not (is_measured s.purpose) f _ p (record {
+  mentioned s before kind t at f p q = said_or_not (is_measured s.purpose) f _ p (record {
     file = p.file;
     names = p.names;
     tags = p.tags;
     records = p.records;
+    fields = p.fields;
     objects = p.objects;
     functions = p.functions;
+    mentions = all_put (λ m. P m.at) before f.mentions _ p.mentions q;
   })
 
   pub object_added : (f : FileScope) (o : AnObject) → AreAt number P f → IsAt number P o.place → AreAt number P (D.with_object f o)
@@ -52,18 +55,22 @@ module _ {number : ℕ} {P : ℕ → Type 0} where
     names = p.names;
     tags = p.tags;
     records = p.records;
+    fields = p.fields;
     objects = all_one (λ o. IsAt number P o.place) f.objects o p.objects q;
     functions = p.functions;
+    mentions = p.mentions;
   }
 
-  record_added : (f : FileScope) (r : Record) → AreAt number P f → IsAt number P r.place → AreAt number P (D.with_record f r)
-  record_added f r p q = record {
+  record_added : (f : FileScope) (r : Record) → AreAt number P f → IsAt number P r.place → AreFieldsAt number P r.fields → AreAt number P (D.with_record f r)
+  record_added f r p q fields = record {
     file = p.file;
     names = p.names;
     tags = p.tags;
     records = all_one (λ r. IsAt number P r.place) f.records r p.records q;
+    fields = all_one (λ r. AreFieldsAt number P r.fields) f.records r p.fields fields;
     objects = p.objects;
     functions = p.functions;
+    mentions = p.mentions;
   }
 
   pub bound_added : (f : FileScope) (b : Bound) → AreAt number P f → P b.place → AreAt number P (D.with_bound f b)
@@ -72,8 +79,10 @@ module _ {number : ℕ} {P : ℕ → Type 0} where
     names = all_one (λ b. P b.place) f.names b p.names q;
     tags = p.tags;
     records = p.records;
+    fields = p.fields;
     objects = p.objects;
     functions = p.functions;
+    mentions = p.mentions;
   }
 
   -- ---- string literals
@@ -291,15 +300,16 @@ module _ (number : ℕ) (P : ℕ → Type 0) (begin : P 0) where
   record_place_if_any records None p = begin
   record_place_if_any records (Some n) p = record_place records n p
 
-  complete_given : (f : FileScope) (at : ℕ) (r : Record) → AreAt number P f → P at → IsAt number P r.place
+  complete_given : (f : FileScope) (at : ℕ) (r : Record) → AreAt number P f → P at → IsAt number P r.place → AreFieldsAt number P r.fields
       → Gives P (InFile number P) (D.complete_with f at r)
-  complete_given f at r k p q = chosen (nat_le (size_of_record f.records r) 16777216) _ _ (found _ (record_added f r k q)) (fails (too_big at) p)
+  complete_given f at r k p q fields =
+      chosen (nat_le (size_of_record f.records r) 16777216) _ _ (found _ (record_added f r k q fields)) (fails (too_big at) p)
 
   pub completed_given : (f : FileScope) (named : ℕ) (names : List Spelling) (r : Record) → AreAt number P f → P named → Names P names
-      → IsAt number P r.place → Gives P (InFile number P) (D.completed_in f named names r)
+      → IsAt number P r.place → AreFieldsAt number P r.fields → Gives P (InFile number P) (D.completed_in f named names r)
   unfolding D.completed_in
-  completed_given f named names r k p n q = unless_given P (InFile number P) (D.repeated [] names) _ (repeated_at P [] names tt n.each)
-      (chosen (D.is_next (length f.records) (D.number_among f.numbered r.tag)) _ _ (complete_given f r.place.at r k q.at q)
+  completed_given f named names r k p n q fields = unless_given P (InFile number P) (D.repeated [] names) _ (repeated_at P [] names tt n.each)
+      (chosen (D.is_next (length f.records) (D.number_among f.numbered r.tag)) _ _ (complete_given f r.place.at r k q.at q fields)
       (fails (D.completed_before f named r.tag) (p, record_place_if_any f.records (D.number_among f.numbered r.tag) k.records)))
 
   new_name_given : (f : FileScope) (b : Bound) (o : Option Bound) → AreAt number P f → P b.place → IsBoundAt P o

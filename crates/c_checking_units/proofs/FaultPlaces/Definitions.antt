@@ -101,8 +101,10 @@ body_added f n place count nodes all locals (Some g) k p = record {
   names = k.names;
   tags = k.tags;
   records = k.records;
+  fields = k.fields;
   objects = k.objects;
   functions = functions_set f.functions n _ k.functions (place_in_file f place k p);
+  mentions = k.mentions;
 }
 
 module _ (number : ℕ) (P : ℕ → Type 0) (begin : P 0) where
@@ -136,7 +138,7 @@ module _ (number : ℕ) (P : ℕ → Type 0) (begin : P 0) where
       → Tokens P (spelled_block_items items rest) → Files (F.define_shape f words x before at place left nodes shape list items)
   shape_defined f words x before at place left nodes (closed (function result types)) list items rest k n p q l h =
       function_defined _ words x at place left nodes result types items (F.received_by list types) rest
-      (mentioned (at_file_scope f) before Named (function result types) place f k) n p q (received_by_at P begin list types l) h
+      (mentioned (at_file_scope f) before Named (function result types) place f k q) n p q (received_by_at P begin list types l) h
   shape_defined f words x before at place left nodes shape list items rest k n p q l h = refuses R.Specifiers at p
 
   definition_named_found : (f : FileScope) (specs : Trees.Specifiers) (base : CType) (d : Trees.Declarator) (left nodes : ℕ) (items : Trees.BlockItems)
@@ -207,8 +209,10 @@ module _ (number : ℕ) (P : ℕ → Type 0) (begin : P 0) where
         names = tt;
         tags = firsts_of [] (tags_in (marks_of_file untagged items)) (tags_of (marks_of_file untagged items) marks.each);
         records = tt;
+        fields = tt;
         objects = tt;
         functions = tt;
+        mentions = tt;
       }
 
   settled_at : (names : List Bound) (n : ℕ) (o : AnObject) → IsAt number P o.place → IsAt number P (F.settled names n o).place
@@ -230,8 +234,10 @@ module _ (number : ℕ) (P : ℕ → Type 0) (begin : P 0) where
     names = k.names;
     tags = k.tags;
     records = k.records;
+    fields = k.fields;
     objects = settled_all f.names 0 f.objects k.objects;
     functions = k.functions;
+    mentions = k.mentions;
   }
 
   pub file_found : (untagged : ℕ → List ℕ) (items : List Trees.Item) → Tokens P (spelled_items items []) → Files (F.annotated number untagged items)

@@ -50,8 +50,10 @@ function_added {number} {P} f g p q = record {
   names = p.names;
   tags = p.tags;
   records = p.records;
+  fields = p.fields;
   objects = p.objects;
   functions = all_one (λ g. IsAt number P g.place) f.functions g p.functions q;
+  mentions = p.mentions;
 }
 
 -- ---- what stands before an answer
@@ -187,14 +189,14 @@ module _ (number : ℕ) (P : ℕ → Type 0) (begin : P 0) where
       >>= λ u. F.declare_object (D.with_mention (at_file_scope f) before Object u place f) words x place from u d.value))
   other_declared words before place from x t d nodes f rest k p q h = chosen (is_function t) _ _
       (without_value_given P (AreAt number P) x.from d.value _ p (function_declared _ words x place from t nodes (F.library_named x.text)
-      (mentioned (at_file_scope f) before Named t place f k) p q))
+      (mentioned (at_file_scope f) before Named t place f k q) p q))
       (then (D.object_at f.records (complete (at_file_scope f) x.from) x.from t) _ (object_stops P f.records (complete (at_file_scope f) x.from) x.from t p)
-      (λ u v. object_declared _ words x place from u d.value rest (mentioned (at_file_scope f) before Object u place f k) p q h))
+      (λ u v. object_declared _ words x place from u d.value rest (mentioned (at_file_scope f) before Object u place f k q) p q h))
 
   declared_as : (words : Storage) (before place from : ℕ) (x : Spelling) (t : CType) (d : Trees.InitDeclarator) (nodes : ℕ) (f : FileScope) (rest : List Lexeme)
       → AreAt number P f → P x.from → P place → Tokens P (spelled_value d.value rest) → Files (F.declare_as words before place from x t d nodes f)
   declared_as a_typedef before place from x t d nodes f rest k p q h = without_value_given P (AreAt number P) x.from d.value _ p
-      (typedef_declared _ x from t (mentioned (at_file_scope f) before Named t place f k) p)
+      (typedef_declared _ x from t (mentioned (at_file_scope f) before Named t place f k q) p)
   declared_as words before place from x t d nodes f rest k p q h = other_declared words before place from x t d nodes f rest k p q h
 
   declarator_found : (f : FileScope) (words : Storage) (base : CType) (d : Trees.InitDeclarator) (from nodes : ℕ) (o : Option Spelling) (rest : List Lexeme)

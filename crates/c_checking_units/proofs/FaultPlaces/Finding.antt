@@ -33,8 +33,7 @@ use Rattle.c_erasure.specs.Checking.Finding.{find, arguments, type_name, one_of,
 use Rattle.c_erasure.specs.Checking.Finding.{derivations}
 use Rattle.c_erasure.specs.Checking.Finding.{array_step, parameter_list, parameters}
 use Rattle.c_checking_units.proofs.FaultPlaces.Given.{Gives, Stops, InFile, AreAt, IsIn, found, refuses, then, chosen, beside, beside_then, is_moved, is_inside}
-use Rattle.c_checking_units.proofs.FaultPlaces.Given.{for_purpose}
-use Rattle.c_checking_units.proofs.FaultPlaces.Given.{all_one}
+use Rattle.c_checking_units.proofs.FaultPlaces.Given.{AreFieldsAt, IsAt, for_purpose, all_one, all_both}
 use Rattle.c_checking_units.proofs.FaultPlaces.Tokens.{Tokens, front, back, comma_after, tag_after, consts_after, expression_behind, specifiers_behind}
 use Rattle.c_checking_units.proofs.FaultPlaces.Tokens.{declarator_behind}
 use Rattle.c_checking_units.proofs.FaultPlaces.Tokens.{type_name_behind, member_declarators_behind, value_behind}
@@ -131,9 +130,14 @@ module _ (number : ℕ) (P : ℕ → Type 0) (begin : P 0) where
   base_found D.by_one at f one p k g = g
   base_found D.no_type at f one p k g = refuses R.Specifiers at p
 
-  member_found : (at : Place) (t : CType) (x : Option Spelling) (later : Checked (List Field)) → P at.at → Finds later → Finds (with_member at t x later)
-  member_found at t None later p g = refuses R.Specifiers at.at p
-  member_found at t (Some x) later p g = then later _ g (λ rest k. found _ k)
+  -- fields at such places
+  abbrev Members : Checked (List Field) → Type 0
+  Members r = Gives P (λ z. AreFieldsAt number P z.0 × AreAt number P z.1) r
+
+  member_found : (at : Place) (t : CType) (x : Option Spelling) (later : Checked (List Field)) → IsAt number P at → Members later
+      → Members (with_member at t x later)
+  member_found at t None later p g = refuses R.Specifiers at.at p.at
+  member_found at t (Some x) later p g = then later _ g (λ rest k. found _ ((p, k.0), k.1))
 
   -- ---- the recursion
 
@@ -194,10 +198,10 @@ module _ (number : ℕ) (P : ℕ → Type 0) (begin : P 0) where
     find_found (Trees.sizeof_expression at a) s rest k h = then (find a (measured s)) _ (find_found a (measured s) _ (as_measured k) (back h))
         (λ x f. beside_then x.1 (N.measured_in x.1.records (complete s at) at (first a) x.0) _
         (measured_stops x.1.records (complete s at) at (first a) x.0 (front h) (begins P begin a _ (back h)))
-        (λ t u. found _ (mentioned s (D.mentions_in x.1) Sizeof t at x.1 f)))
+        (λ t u. found _ (mentioned s (D.mentions_in x.1) Sizeof t at x.1 f (front h))))
     find_found (Trees.sizeof_type at left n right) s rest k h = then (type_name n s) _ (type_name_found n s _ k (back (back h)))
         (λ n f. beside_then n.1 (N.sized_type n.1.records (complete s right) at n.0) _ (sized_type_stops n.1.records (complete s right) at n.0 (front h))
-        (λ t u. found _ (mentioned s (D.mentions_in s.file) Sizeof t at n.1 f)))
+        (λ t u. found _ (mentioned s (D.mentions_in s.file) Sizeof t at n.1 f (front h))))
     find_found (Trees.cast left n right a) s rest k h =
         let q = (type_name_behind P (λ at. []) n (back h)).tokens in
         then (type_name n s) _ (type_name_found n s _ k (back h)) (λ t f. then (value_at (first a) (find a (moved s t.1))) _
@@ -258,7 +262,7 @@ module _ (number : ℕ) (P : ℕ → Type 0) (begin : P 0) where
         (without_storage_given P (InFile number P) at (storage_of specs) _ p (by_words specs s _ k h (one_found specs s _ k h)))
         (λ b f. then (derivations d (moved s b.1)) _ (derivations_found d (moved s b.1) _ (is_moved k f) q)
         (λ steps g. beside_then steps.1 (type_of_derived (first_declarator d at) steps.1 steps.0 b.0) _ (type_stops (first_declarator d at) steps.1 steps.0 b.0 place g.0)
-        (λ t u. found _ (mentioned s (D.mentions_in b.1) Named t (first_declarator d at) steps.1 g.1))))
+        (λ t u. found _ (mentioned s (D.mentions_in b.1) Named t (first_declarator d at) steps.1 g.1 place))))
 
     one_found : (specs : Trees.Specifiers) (s : Scope) (rest : List Lexeme) → IsIn number P s → Tokens P (spelled_specifiers specs rest)
         → Finds (one_of specs s)
@@ -280,9 +284,9 @@ module _ (number : ℕ) (P : ℕ → Type 0) (begin : P 0) where
         let q = back (tag_after x (back h)) in
         chosen s.is_inside _ _ (refuses R.Scope at (front h))
         (unless_given P (InFile number P) (D.definable s at x (D.known_tag s x)) _ (definable_at number P begin s at x (D.known_tag s x) k n)
-        (then (members all s) _ (members_found all s _ k q) (λ m f. completed_given number P begin m.1 (tag_place at x) (member_names all)
-        (record { tag = tag_text s at x; place = place_in s at; fields = m.0 }) f (tag_at P at x (front h) n) (member_names_at P begin all _ q)
-        (place_at k (front h)))))
+        (then (members all s) _ (members_found all s _ k q) (λ m j. completed_given number P begin m.1 (tag_place at x) (member_names all)
+        (record { tag = tag_text s at x; place = place_in s at; fields = m.0 }) j.1 (tag_at P at x (front h) n) (member_names_at P begin all _ q)
+        (place_at k (front h)) j.0)))
     specifier_found (Trees.enum_named at x) s rest k h = beside s.file _ k.file (enumerated_stops number P begin s.file x k.file (front (back h)))
     specifier_found (Trees.enum_body at x left all comma right) s rest k h =
         chosen s.is_inside _ _ (refuses R.Scope at (front h))
@@ -290,8 +294,8 @@ module _ (number : ℕ) (P : ℕ → Type 0) (begin : P 0) where
         (λ f j. beside f.1 _ j (enumeration_stops number P begin f.1 x j (tag_name_at x _ (back h)))))
 
     members_found : (all : Trees.MemberDeclarations) (s : Scope) (rest : List Lexeme) → IsIn number P s → Tokens P (spelled_member_declarations all rest)
-        → Finds (members all s)
-    members_found Trees.no_member_declarations s rest k h = found _ k.file
+        → Members (members all s)
+    members_found Trees.no_member_declarations s rest k h = found _ (tt, k.file)
     members_found (Trees.and_member_declaration specs ds semicolon more) s rest k h =
         let at = first_specifiers specs in
         let p = specifiers_begin P begin specs _ h in
@@ -300,11 +304,12 @@ module _ (number : ℕ) (P : ℕ → Type 0) (begin : P 0) where
         then (D.without_storage at (storage_of specs) (base_type (D.base_kind specs) at s.file (one_of specs s))) _
         (without_storage_given P (InFile number P) at (storage_of specs) _ p (by_words specs s _ k h (one_found specs s _ k h)))
         (λ b f. then (member_declarators ds b.0 semicolon (moved s b.1)) _ (member_declarators_found ds b.0 semicolon (moved s b.1) _ (is_moved k f) q (front r))
-        (λ own g. then (members more (moved s own.1)) _ (members_found more (moved s own.1) _ (is_moved k g) (back r)) (λ rest j. found _ j)))
+        (λ own g. then (members more (moved s own.1)) _ (members_found more (moved s own.1) _ (is_moved k g.1) (back r))
+        (λ rest j. found _ (all_both (λ f. IsAt number P f.place) own.0 rest.0 g.0 j.0, j.1))))
 
     member_declarators_found : (ds : Trees.MemberDeclarators) (base : CType) (semicolon : ℕ) (s : Scope) (rest : List Lexeme) → IsIn number P s
-        → Tokens P (spelled_member_declarators ds rest) → P semicolon → Finds (member_declarators ds base semicolon s)
-    member_declarators_found Trees.no_member_declarators base semicolon s rest k h e = found _ k.file
+        → Tokens P (spelled_member_declarators ds rest) → P semicolon → Members (member_declarators ds base semicolon s)
+    member_declarators_found Trees.no_member_declarators base semicolon s rest k h e = found _ (tt, k.file)
     member_declarators_found (Trees.and_member_declarator comma d more) base semicolon s rest k h e =
         let own = comma_after comma h in
         let at = first_declarator d semicolon in
@@ -313,8 +318,8 @@ module _ (number : ℕ) (P : ℕ → Type 0) (begin : P 0) where
         (λ steps f. beside_then steps.1 (type_of_derived at steps.1 steps.0 base) _ (type_stops at steps.1 steps.0 base p f.0)
         (λ t u. beside_then steps.1 (D.object_at steps.1.records (complete s at) at t) _ (object_stops P steps.1.records (complete s at) at t p)
         (λ u v. let g = D.with_mention s (D.mentions_in s.file) Named u at steps.1 in
-        member_found (place_in s at) u (declared_name d) (member_declarators more base semicolon (moved s g)) p
-        (member_declarators_found more base semicolon (moved s g) _ (is_moved k (mentioned s (D.mentions_in s.file) Named u at steps.1 f.1)) (after_declarator d own) e))))
+        member_found (place_in s at) u (declared_name d) (member_declarators more base semicolon (moved s g)) (place_at k p)
+        (member_declarators_found more base semicolon (moved s g) _ (is_moved k (mentioned s (D.mentions_in s.file) Named u at steps.1 f.1 p)) (after_declarator d own) e))))
 
     enumerators_found : (all : Trees.Enumerators) (s : Scope) (next after : ℕ) (rest : List Lexeme) → IsIn number P s
         → Tokens P (spelled_enumerators all rest) → Finds (enumerators all s next after)
@@ -387,7 +392,7 @@ module _ (number : ℕ) (P : ℕ → Type 0) (begin : P 0) where
         (λ t j. let f = D.with_mention s (D.mentions_in b.1) Named t.0 place t.1 in
         then (parameters more (with_parameter_if_named (moved s f) (declared_name d) t.0)) _
         (parameters_found more (with_parameter_if_named (moved s f) (declared_name d) t.0) _
-        (parameter_in (moved s f) (declared_name d) t.0 (is_moved k (mentioned s (D.mentions_in b.1) Named t.0 place t.1 j)) name) (after_declarator d q))
+        (parameter_in (moved s f) (declared_name d) t.0 (is_moved k (mentioned s (D.mentions_in b.1) Named t.0 place t.1 j place_is)) name) (after_declarator d q))
         (λ rest i. found _ i)))))
 
   -- the type that specifiers name

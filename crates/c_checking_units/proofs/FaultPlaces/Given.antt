@@ -1,9 +1,10 @@
 -- What the checker answers where what holds of the places of all tokens of a tree holds of those that a fault names.
-use Rattle.std.proofs.Common.{◌≡◌, ℕ, Bool, true, false, cond, List, [], ◌∷◌, ◌++◌}
+use Rattle.std.proofs.Common.{◌≡◌, ℕ, zero, suc, Bool, true, false, cond, List, [], ◌∷◌, ◌++◌, take, drop}
 use Rattle.std.specs.Prelude.{Option, Some, None, Ok, Err}
 use Rattle.std.specs.List.{AllByRecursion}
 use Rattle.lay_base.specs.declared.place.Place.{Place}
 use Rattle.lay_base.specs.declared.faults.Rule.{Rule}
+use Rattle.c_types.specs.Types.{Field}
 use Rattle.c_erasure.specs.Broken.{Fault}
 use Rattle.c_erasure.specs.Scopes.{FileScope, Scope, Purpose, inside, with_purpose}
 use Rattle.c_erasure.specs.Checking.Answers.{Answer, ◌>>=◌, refused, with_file, moved}
@@ -60,13 +61,18 @@ pub record IsAt (number : ℕ) (P : ℕ → Type 0) (place : Place) : Type 0 whe
   pub file : place.file ≡ number
   pub at : P place.at
 
+abbrev pub AreFieldsAt : ℕ → (ℕ → Type 0) → List Field → Type 0
+AreFieldsAt number P fields = AllByRecursion (λ f. IsAt number P f.place) fields
+
 pub record AreAt (number : ℕ) (P : ℕ → Type 0) (f : FileScope) : Type 0 where
   pub file : f.file ≡ number
   pub names : AllByRecursion (λ b. P b.place) f.names
   pub tags : AllByRecursion (λ t. P t.place) f.tags
   pub records : AllByRecursion (λ r. IsAt number P r.place) f.records
+  pub fields : AllByRecursion (λ r. AreFieldsAt number P r.fields) f.records
   pub objects : AllByRecursion (λ o. IsAt number P o.place) f.objects
   pub functions : AllByRecursion (λ g. IsAt number P g.place) f.functions
+  pub mentions : AllByRecursion (λ m. P m.at) f.mentions
 
 pub record IsIn (number : ℕ) (P : ℕ → Type 0) (s : Scope) : Type 0 where
   pub file : AreAt number P s.file
@@ -102,3 +108,14 @@ beside_then f (Err e) k p n = record { given = p.given }
 pub all_one : {A : Type 0} (Q : A → Type 0) (all : List A) (x : A) → AllByRecursion Q all → Q x → AllByRecursion Q (all ++ x ∷ [])
 all_one Q [] x p q = (q, tt)
 all_one Q (y ∷ all) x p q = (p.0, all_one Q all x p.1 q)
+
+pub all_both : {A : Type 0} (Q : A → Type 0) (all more : List A) → AllByRecursion Q all → AllByRecursion Q more → AllByRecursion Q (all ++ more)
+all_both Q [] more p q = q
+all_both Q (y ∷ all) more p q = (p.0, all_both Q all more p.1 q)
+
+-- also where one is put between others
+pub all_put : {A : Type 0} (Q : A → Type 0) (n : ℕ) (all : List A) (x : A) → AllByRecursion Q all → Q x → AllByRecursion Q (take n all ++ x ∷ drop n all)
+all_put Q zero [] x p q = (q, tt)
+all_put Q (suc n) [] x p q = (q, tt)
+all_put Q zero (y ∷ all) x p q = (q, p)
+all_put Q (suc n) (y ∷ all) x p q = (p.0, all_put Q n all x p.1 q)

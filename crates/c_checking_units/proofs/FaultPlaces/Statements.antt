@@ -116,8 +116,10 @@ object_replaced f n o p q = record {
   names = p.names;
   tags = p.tags;
   records = p.records;
+  fields = p.fields;
   objects = objects_set f.objects n o p.objects q;
   functions = p.functions;
+  mentions = p.mentions;
 }
 
 module _ (number : ℕ) (P : ℕ → Type 0) (begin : P 0) where
@@ -155,7 +157,7 @@ module _ (number : ℕ) (P : ℕ → Type 0) (begin : P 0) where
       (λ t u. beside_then steps.1 (C.variable_type steps.1.records (complete s x.from) x.from t) _
       (variable_stops P steps.1.records (complete s x.from) x.from t p)
       (λ u v. new_here_given P (InFile number P) x (here s x.text) _ p (in_first_at P s.blocks x.text k.blocks)
-      (found _ (mentioned s (D.mentions_in s.file) Object u place steps.1 f.1))))))
+      (found _ (mentioned s (D.mentions_in s.file) Object u place steps.1 f.1 (declarator_begins P begin d.declarator x.from _ h p)))))))
 
   initial_found : (value : Option (ℕ × Trees.Expression)) (s : Scope) (t : CType) (rest : List Lexeme) → IsIn number P s
       → Tokens P (spelled_value value rest) → Gives P (InFile number P) (C.initial_if_any value s t)

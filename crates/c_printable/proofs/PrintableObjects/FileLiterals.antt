@@ -27,6 +27,7 @@ use Rattle.c_well_typed.proofs.Enumerators.{anything}
 use Rattle.c_well_typed.proofs.FileObjects.{IsObjectName, name_known}
 use Rattle.c_well_typed.proofs.MadeNames as MadeNames
 use Rattle.c_well_typed.proofs.NamedTypes.{IsMadeEntity}
+use Rattle.c_well_typed.proofs.LiteralObjects.{any_good}
 use Rattle.c_well_typed.proofs.TokenBytes.{tree_of_bytes}
 use Rattle.c_well_typed.proofs.UnitFunctions.{records_ended}
 use Rattle.c_printable.specs.Programs.{times}
@@ -51,7 +52,7 @@ module _ (bytes : List ℕ) (items : List Trees.Item) (f : FileScope) (tree : Is
   pub visible_made : (x : List ℕ) (at : ℕ) (e : Entity) → visible f.names x at ≡ Some e → IsMadeEntity f count less e
   visible_made = MadeNames.visible_made f count less h.consistent items tree.3.well_formed h beginnings
 
-  name_own : (b : Bound) → IsObjectName f count less b → IsOwnEntity f b.entity
+  name_own : (b : Bound) → IsObjectName f count less (any_good f) b → IsOwnEntity f b.entity
   name_own b k = by_entity b.entity (λ n t e. (k n t e).0)
     where
       by_entity : (e : Entity) → ((n : ℕ) (t : CType) → e ≡ an_object n t → IsOwn f n) → IsOwnEntity f e
@@ -61,7 +62,7 @@ module _ (bytes : List ℕ) (items : List Trees.Item) (f : FileScope) (tree : Is
   pub visible_own : (x : List ℕ) (at : ℕ) (e : Entity) → visible f.names x at ≡ Some e → IsOwnEntity f e
   visible_own x at e v =
       let z = visible_is f.names x at e v in
-      subst (IsOwnEntity f) z.5 (name_own z.1 (name_known f count less items (tree_of_bytes bytes items tree) h beginnings z.0 z.1 z.2))
+      subst (IsOwnEntity f) z.5 (name_own z.1 (name_known f count less (any_good f) items (tree_of_bytes bytes items tree) h beginnings z.0 z.1 z.2))
 
   abbrev pub walk : (n at : ℕ) → Walk
   walk n at = record {
@@ -122,7 +123,7 @@ module _ (bytes : List ℕ) (items : List Trees.Item) (f : FileScope) (tree : Is
           where
             own : o.literal ≡ None
             own =
-                let k = name_known f count less items (tree_of_bytes bytes items tree) h beginnings d.0 d.1 d.2 in
+                let k = name_known f count less (any_good f) items (tree_of_bytes bytes items tree) h beginnings d.0 d.1 d.2 in
                 let z = (k m o.ty d.3).0 in
                 subst (λ (o : AnObject). o.literal ≡ None) (some_is z.0 o (sym z.1 ∙ e)) z.2
 
@@ -234,7 +235,7 @@ module _ (bytes : List ℕ) (items : List Trees.Item) (f : FileScope) (tree : Is
         by_maker (inl i) = subst (IsMadeThere (made_by_file items)) t.2 i
         by_maker (inr d) =
             let b = declaring f count less f.names (an_object n t.0.ty) d.0 d.2 d.1 in
-            let k = name_known f count less items (tree_of_bytes bytes items tree) h beginnings b.0 b.1 b.2 in
+            let k = name_known f count less (any_good f) items (tree_of_bytes bytes items tree) h beginnings b.0 b.1 b.2 in
             let own = (k n t.0.ty b.3).0 in
             absurd (t.3 (subst (λ (o : AnObject). o.literal ≡ None) (some_is own.0 t.0 (sym own.1 ∙ t.1)) own.2))
 

@@ -22,7 +22,7 @@ use Rattle.c_erasure.specs.Units as Units
 use Rattle.c_erasure.specs.Units.{types, number_in, object_types, of_initializer, typed_initializer, unit_of}
 use Rattle.c_well_typed.proofs.FileObjects.{objects_known}
 use Rattle.c_well_typed.proofs.InitialStores.{AreBytes}
-use Rattle.c_well_typed.proofs.LiteralObjects.{Holds}
+use Rattle.c_well_typed.proofs.LiteralObjects.{Holds, any_good}
 use Rattle.c_well_typed.proofs.Numbers.{IsNumbered}
 use Rattle.c_well_typed.proofs.TokenBytes.{tree_of_bytes}
 use Rattle.c_well_typed.proofs.UnitFunctions.{records_ended, objects_numbered, at_place}
@@ -59,7 +59,7 @@ module _ (bytes : List ℕ) (items : List Trees.Item) (f : FileScope) (tree : Is
   U = as_program (unit_of items f)
 
   holds : (n : ℕ) (o : AnObject) → slice_get f.objects n ≡ Some o → Holds o
-  holds n o e = (objects_known f (length f.records) (records_ended items f h beginnings) items (tree_of_bytes bytes items tree) h beginnings n o e).0
+  holds n o e = (objects_known f (length f.records) (records_ended items f h beginnings) (any_good f) items (tree_of_bytes bytes items tree) h beginnings n o e).0
 
   -- an object under its number has its type
   type_is : (n : ℕ) (o : AnObject) → slice_get f.objects n ≡ Some o → type_at T (number_in T o.ty) ≡ o.ty

@@ -1,32 +1,35 @@
 -- What the unit of a file declares stands at places of the file.
-use Rattle.std.proofs.Common.{◌≡◌, ℕ, ◌+◌, List, [], ◌∷◌, ◌++◌, length, drop, Some, refl, sym, ap, ◌∙◌, subst, arith, append_assoc, length-append}
+use Rattle.std.proofs.Common.{◌≡◌, ℕ, ◌+◌, List, [], ◌∷◌, ◌++◌, length, drop, Some, Ok, refl, sym, ap, ◌∙◌, subst, arith, append_assoc, length-append}
 use Rattle.std.specs.Prelude.{slice_get}
 use Rattle.std.specs.List.{AllByRecursion}
 use Rattle.std.proofs.lemmas.List.Elements.{All-weaker}
 use Rattle.lay_base.specs.declared.place.File.{File}
 use Rattle.lay_base.specs.declared.place.Place.{Place}
 use Rattle.c_tokens.specs.TokenPlaces.{IsPlaceIn, TokensHavePlaces, IsPlaceOf}
-use Rattle.c_types.specs.Types.{Record}
+use Rattle.c_types.specs.Types.{Field, Record}
 use Rattle.c_typed.specs.declared.program.Object.{Object}
 use Rattle.c_typed.specs.Programs.{FunctionData, UnitData}
 use Rattle.c_ast.specs.Laws.{TreesBeginFirst}
 use Rattle.c_ast.specs.Spelling.{spell}
 use Rattle.c_ast.specs.Trees
+use Rattle.c_erasure.specs.Checking.Files.{annotated}
 use Rattle.c_erasure.specs.Scopes.{FileScope}
 use Rattle.c_erasure.specs.Units.{unit_of, object, function}
 use Rattle.c_erasure.specs.Untagged.{AreTags, structs_in}
 use Rattle.c_checking_laws.specs.TextOrder.TextOrder.{IsUnwritten, TextsAreInOrder}
 use Rattle.c_checking_laws.proofs.TextOrder.UntaggedNames.OneLine.{IsTagAt}
+use Rattle.c_checking_laws.proofs.TextOrder.UntaggedNames.OtherParts.{with_tags}
 use Rattle.c_checking_units.proofs.StepsOfFiles.{text_steps}
-use Rattle.c_checking_units.proofs.OneUnit.{HaveSteps, found_unit}
+use Rattle.c_checking_units.proofs.OneUnit.{HaveSteps, found_by}
 use Rattle.c_link.specs.Programs.{IsUnitOfFile, AreUnitsOf}
-use Rattle.c_checking_units.proofs.FaultPlaces.Given.{AreAt, IsAt}
+use Rattle.c_checking_units.proofs.FaultPlaces.Given.{AreFieldsAt, AreAt, IsAt}
 use Rattle.c_checking_units.proofs.FaultPlaces.Texts.{file_places}
 use Rattle.c_well_typed.proofs.GapPlaces.Everywhere.{each_of, behind}
 
--- each structure, object and function of a unit stands at such a place
+-- each structure of a unit, with its fields, and each object and function stands at such a place
 pub record ArePlaced (Is : Place → Type 0) (u : UnitData) : Type 0 where
   pub records : AllByRecursion (λ r. Is r.place) u.records
+  pub fields : AllByRecursion (λ r. AllByRecursion (λ f. Is f.place) r.fields) u.records
   pub objects : AllByRecursion (λ o. Is o.place) u.objects
   pub functions : AllByRecursion (λ g. Is g.place) u.functions
 
@@ -35,6 +38,7 @@ of_file : (Is : Place → Type 0) (number : ℕ) (P : ℕ → Type 0) (f : FileS
     → ((place : Place) → IsAt number P place → Is place) → AreAt number P f → ArePlaced Is (unit_of items f)
 of_file Is number P f items h k = record {
   records = each_is f.records k.records;
+  fields = fields_are f.records k.fields;
   objects = each_of (λ (o : Object). Is o.place) (λ o. IsAt number P o.place) (object f) f.objects (λ o p. h o.place p) k.objects;
   functions = each_of (λ (g : FunctionData). Is g.place) (λ g. IsAt number P g.place) (function f) f.functions (λ g p. h g.place p) k.functions;
 }
@@ -43,8 +47,16 @@ of_file Is number P f items h k = record {
     each_is [] p = tt
     each_is (r ∷ more) p = (h r.place p.0, each_is more p.1)
 
+    each_field : (all : List Field) → AreFieldsAt number P all → AllByRecursion (λ f. Is f.place) all
+    each_field [] p = tt
+    each_field (field ∷ more) p = (h field.place p.0, each_field more p.1)
+
+    fields_are : (all : List Record) → AllByRecursion (λ r. AreFieldsAt number P r.fields) all → AllByRecursion (λ r. AllByRecursion (λ f. Is f.place) r.fields) all
+    fields_are [] p = tt
+    fields_are (r ∷ more) p = (each_field r.fields p.0, fields_are more p.1)
+
 -- names that begin as no identifier does, and are those of the structures of the text
-abbrev unwritten_by : (ℕ → List ℕ) → ℕ → List ℕ
+abbrev pub unwritten_by : (ℕ → List ℕ) → ℕ → List ℕ
 unwritten_by u at = 64 ∷ drop 1 (u at)
 
 tags_unwritten : (name bytes structs : List ℕ) (u : ℕ → List ℕ) → AreTags name bytes structs u → AreTags name bytes structs (unwritten_by u)
@@ -55,15 +67,23 @@ module _ (places : TokensHavePlaces) (first : TreesBeginFirst) (texts : TextsAre
   steps : HaveSteps
   steps bytes items g unwritten tree h w = text_steps places first texts g w bytes items unwritten tree h
 
+  -- the annotated file of a unit, whichever names structures without a tag have
+  pub unit_at : (number : ℕ) (file : File) (u : UnitData) (h : IsUnitOfFile number file u)
+      → AreAt number (IsPlaceIn file.bytes) (with_tags (unwritten_by h.erases.annotated.untagged) h.erases.annotated)
+  unit_at number file u h =
+      let f = h.erases.annotated in
+      let names = unwritten_by f.untagged in
+      let unwritten : (at : ℕ) → IsUnwritten (names at) = λ at. (drop 1 (f.untagged at), refl) in
+      let given = tags_unwritten file.name file.bytes (structs_in (spell h.items)) f.untagged h.erases.tags in
+      let is = found_by places first texts steps file.name file.bytes h.items f names h.tree unwritten h.erases.tags given h.erases.of_tree in
+      let answer = subst (λ n. annotated n names h.items ≡ Ok (with_tags names f)) h.erases.number is in
+      file_places places number names file.bytes h.items h.tree (with_tags names f) answer
+
   unit_placed : (Is : Place → Type 0) (number : ℕ) (file : File) (u : UnitData) → IsUnitOfFile number file u
       → ((place : Place) → IsAt number (IsPlaceIn file.bytes) place → Is place) → ArePlaced Is u
   unit_placed Is number file u h is =
-      let names = unwritten_by h.erases.annotated.untagged in
-      let unwritten : (at : ℕ) → IsUnwritten (names at) = λ at. (drop 1 (h.erases.annotated.untagged at), refl) in
-      let given = tags_unwritten file.name file.bytes (structs_in (spell h.items)) h.erases.annotated.untagged h.erases.tags in
-      let g = found_unit places first texts steps number file.name file.bytes h.items u names h.tree unwritten given h.erases in
-      let placed = file_places places number names file.bytes h.items h.tree g.0 g.1 in
-      subst (ArePlaced Is) (sym g.2) (of_file Is number (IsPlaceIn file.bytes) g.0 h.items is placed)
+      let f = with_tags (unwritten_by h.erases.annotated.untagged) h.erases.annotated in
+      subst (ArePlaced Is) (sym h.erases.unit) (of_file Is number (IsPlaceIn file.bytes) f h.items is (unit_at number file u h))
 
   -- of the units of the files behind others
   units_placed : (all passed files : List File) (units : List UnitData) → all ≡ passed ++ files → AreUnitsOf (length passed) files units
