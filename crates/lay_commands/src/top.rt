@@ -7,6 +7,7 @@ ghost use Rattle.clap.specs.Simple.{subcommand_rows_of};
 ghost use Rattle.lay_commands.specs.Words.{command_found, command_of, requested, IsPossible};
 ghost use Rattle.lay_compile.specs.ProgramFiles.FrontEnd.{or_empty};
 ghost use Rattle.lay_compile.specs.ProgramFiles.Outside.{outside, stream};
+ghost use Rattle.c_undefined_places.specs.Verdicts.{ViolationsStandInFiles};
 ghost use Rattle.layout_plan.specs.Planning.{PlansAreOne};
 ghost use Rattle.lay_commands.specs.Answers.{ErrGives, MayRead, OutcomeGives, OutcomeHas, run_outcome};
 
@@ -16,7 +17,7 @@ use crate::outcome::Outcome;
 use crate::profiling::profile;
 use crate::running::run;
 use crate::words::{Request, matches_in, request_in};
-use c_undefined_places::undefined_steps_stand_in_files;
+use c_undefined_places::{undefined_steps_stand_in_files, violations_stand_in_files};
 use clap::ArgMatches;
 use lay_base::{Bytes, Host, NoMemory, Sink, Source};
 use lay_compile::{PlaceTexts, named_texts_are_of_places, programs_are_one};
@@ -143,11 +144,14 @@ pub fn layc<H: Host, I: Source, O: Sink, E: Sink>(
     // The program of some files, of which these clauses speak, is the only one, and so is its plan by a profile or without.
     ensures one { ProgramsAreOne }
     ensures plans { PlansAreOne }
+    // Each place of a violation, which a report names, is one of the files, with tokens before it.
+    ensures violations { ViolationsStandInFiles }
 {
     named_texts_are_of_places();
     undefined_steps_stand_in_files();
     programs_are_one();
     plans_are_one();
+    violations_stand_in_files();
     let mut texts = PlaceTexts::none();
     let outcome = outcome_of(alloc, words, host, input, out, &mut texts);
     if let Outcome::Refused(refusal) = &outcome {
