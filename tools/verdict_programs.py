@@ -363,6 +363,15 @@ class Maker:
             return self.chance.choice([f"({spelled(to(tag))})bytes", f"(void *)&{self.pick(record(tag)) or 'n1'}", f"&{self.pick(record(tag)) or 'n1'}"])
         return {TO_VOID: "bytes", TO_CHAR: "bytes", TO_INT: "&n1"}.get(t, "0")
 
+    def measured_structure(self):
+        """The size of an expression that defines a structure, with a field that violates a test where that is one of those favoured."""
+        tag = self.tag()
+        two = pointer(array(record(tag), 2))
+        types = {"OBJT": [two, pointer(function(VOID, [two])), array(two, 3)], "NEST": [record(tag), array(record(tag), 2)]}
+        t = self.chance.choice([t for test in types for t in types[test] if test in self.favoured] or [to(tag)])
+        size = f"sizeof((struct {self.new('U')} {{ int x; {spelled(t, 'f')}; }} *)0)"
+        return self.chance.choice([size, f"sizeof({size})", f"sizeof(1 + {size})"])
+
     def global_object(self, storage):
         t, name = self.scalar(), self.new("s")
         self.say(f"{storage}{spelled(t, name)} = {self.constant(t)};")
@@ -455,6 +464,8 @@ def program(seed):
             maker.say(f"enum {{ E1 = {maker.size_of(0)} }};")
         if maker.sins("OBJT"):
             maker.say(f"typedef struct {maker.tag()} A1[2];")
+        if maker.chance.random() < 0.3:
+            maker.say(f"int z1 = {maker.measured_structure()};")
         for _ in range(maker.chance.randint(0, 4)):
             maker.global_object(maker.chance.choice(["static ", ""]))
     objects += taken(maker)

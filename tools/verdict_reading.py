@@ -4,6 +4,7 @@ It is by the table of the tests and by C99, and takes these choices from `docs/D
 function under `&` stands at the `&`, `2[a]` is `*(2 + a)`, and `const` makes no other type. Parentheses around the whole of what is named are no part of it."""
 
 import ast
+import contextlib
 import re
 
 from verdict_types import CHAR, INT, UNSIGNED, VOID, array, arrays_in, decayed, function, is_pointer
@@ -62,7 +63,7 @@ class Reading:
     """The violations of a program, file by file."""
 
     def __init__(self, files):
-        self.records, self.found, self.order = {}, {}, []
+        self.records, self.found, self.order, self.is_measured = {}, {}, [], False
         for self.file, (name, self.text) in enumerate(files.items()):
             self.starts = [0, *(m.end() for m in re.finditer("\n", self.text))]
             self.scopes, self.types, self.sizes = [{}], {}, set()
@@ -70,10 +71,17 @@ class Reading:
             for item in self.parser.parse(self.text, name).ext:
                 self.item(item)
 
-    def add(self, tags, test, at):
-        for tag in tags:
+    def add(self, tags, test, at, of_field=False):
+        """Of what is only measured nothing counts but the fields of structures that are defined there."""
+        for tag in tags if of_field or not self.is_measured else []:
             violation = (self.file, at, TESTS.index(test))
             self.found[tag] = min(violation, self.found.get(tag, violation))
+
+    @contextlib.contextmanager
+    def measuring(self):
+        before, self.is_measured = self.is_measured, True
+        yield
+        self.is_measured = before
 
     # -- places
 
@@ -144,9 +152,9 @@ class Reading:
             self.records[node.name] = [(name, t) for name, t, _ in fields]
             for _, t, field in fields:
                 at = self.declarator(field.type)
-                self.add(arrays_in(t), "OBJT", at)
+                self.add(arrays_in(t), "OBJT", at, of_field=True)
                 held = self.held(t)
-                self.add([node.name, *held] if held else [], "NEST", at)
+                self.add([node.name, *held] if held else [], "NEST", at, of_field=True)
         return record(node.name)
 
     def enumeration(self, node):
@@ -194,11 +202,9 @@ class Reading:
         return array(CHAR, len(node.value) - 1) if node.type == "string" else INT
 
     def named_type(self, node):
-        """The type that is written, of which nothing is added."""
-        found, self.found = self.found, {}
-        t = self.type_of(node)
-        self.found = found
-        return t
+        """The type that is written, as where it is only measured."""
+        with self.measuring():
+            return self.type_of(node)
 
     def type_of_Cast(self, node):
         return self.named_type(node.to_type)
@@ -376,6 +382,9 @@ class Reading:
             self.add(self.held(self.measured(node)), "SIZE", self.begin(node))
         if isinstance(node.expr, c_ast.Typename):
             self.add(arrays_in(self.type_of(node.expr)), "OBJT", self.abstract(self.byte(node.coord)))
+        else:
+            with self.measuring():
+                self.value(node.expr)
 
     def walk_BinaryOp(self, node):
         if node.op in ("==", "!="):

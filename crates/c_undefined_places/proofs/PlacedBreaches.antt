@@ -125,7 +125,9 @@ module _ (Is : Place → Type 0) where
 
     of_fields : (owner : ℕ) (fields : List Field) → AllByRecursion (λ f. Is f.place) fields → Stand (flat_map (by_field holdings owner) fields)
     of_fields owner [] h = none
-    of_fields owner (f ∷ fields) h = both (of_held owner f.place (held_in holdings f.ty) h.0) (of_fields owner fields h.1)
+    of_fields owner (f ∷ fields) h =
+        let here = both (of_held owner f.place (held_in holdings f.ty) h.0) (at_place Objt f.place (arrays_in f.ty) h.0) in
+        both here (of_fields owner fields h.1)
 
     of_records : (number : ℕ) (all : List Record) → AllByRecursion (λ r. AllByRecursion (λ f. Is f.place) r.fields) all
         → Stand (by_records holdings number all)

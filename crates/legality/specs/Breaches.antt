@@ -80,8 +80,9 @@ abbrev pub by_held : (owner : ℕ) → Place → List ℕ → List Breach
 by_held owner at [] = []
 by_held owner at (r ∷ more) = all_of Nest at (owner ∷ r ∷ more)
 
+-- ... and one in whose type an array of T stands violates a test of T, wherever the structure is defined: no mention tells of the operand of a `sizeof`
 abbrev pub by_field : (holdings : List (List ℕ)) → (owner : ℕ) → Field → List Breach
-by_field holdings owner f = by_held owner f.place (held_in holdings f.ty)
+by_field holdings owner f = by_held owner f.place (held_in holdings f.ty) ++ all_of Objt f.place (arrays_in f.ty)
 
 abbrev pub by_records : (holdings : List (List ℕ)) → (number : ℕ) → List Record → List Breach
 by_records holdings number [] = []

@@ -2,7 +2,8 @@
 --     struct S { int x; int y[2]; };
 --     int g(struct S *a) { return a->x; }
 --     struct S *p = malloc(sizeof(struct S)), *q = p; char *c = 0;
--- Two more records stand in some: T, whose field at byte 67 is a `struct S`, and U, whose field at byte 85 is a `struct T [3]`.
+-- Three more records stand in some: T, whose field at byte 67 is a `struct S`, U, whose field at byte 85 is a `struct T [3]`, and V, whose field at byte 110 is
+-- a `struct S (*)[2]`.
 use Rattle.std.specs.Prelude.{◌≡◌, refl, ℕ, false, List, [], ◌∷◌, codes, fold, length, replicate, Option, Some, None}
 use Rattle.lay_base.specs.declared.place.Place.{Place}
 use Rattle.c_types.specs.declared.ty.IntKind.TheVariants.{Int, Char}
@@ -38,6 +39,9 @@ T = record { tag = codes "T"; place = at 50; fields = field (structure 0) 67 ∷
 
 abbrev U : Record
 U = record { tag = codes "U"; place = at 70; fields = field (array (structure 1) 3) 85 ∷ [] }
+
+abbrev V : Record
+V = record { tag = codes "V"; place = at 90; fields = field (pointer (array (structure 0) 2)) 110 ∷ [] }
 
 abbrev a_record : ℕ
 a_record = 0
@@ -151,6 +155,10 @@ example_objt_behind = refl
 -- struct S o[2];
 example_objt_array : where_said M.Object two_records ≡ first Objt 150
 example_objt_array = refl
+
+-- int n = sizeof((struct V { struct S (*f)[2]; } *)0);
+example_objt_field : verdicts (S ∷ V ∷ []) [] [] ≡ first Objt 110 ∷ None ∷ []
+example_objt_field = refl
 
 -- ---- more
 

@@ -1,4 +1,4 @@
-//! The fields that hold records.
+//! The fields that hold records, and those in whose types arrays of records stand.
 
 ghost use Rattle.std.specs.Prelude.{◌+◌, ◌<◌, ◌^◌, flat_map, length, map};
 ghost use Rattle.c_types.specs.Views.{field_of, records_of};
@@ -6,7 +6,7 @@ ghost use Rattle.legality.specs.Breaches.{by_field, by_held, by_records};
 ghost use Rattle.legality.specs.Firsts.{Marks};
 
 use crate::holdings::held_in;
-use crate::marks::{mark, mark_all};
+use crate::marks::{mark, mark_all, mark_arrays};
 use crate::violation::{Test, Violation};
 use c_types::{Field, Record};
 use lay_base::{List, Place};
@@ -30,6 +30,7 @@ fn mark_fields(
 {
     for f in fields {
         mark_held(firsts, owner, f.place, held_in(holdings, &f.ty));
+        mark_arrays(firsts, Test::Objt, f.place, &f.ty);
     }
 }
 
