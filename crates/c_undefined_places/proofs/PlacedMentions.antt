@@ -56,11 +56,14 @@ module _ (P : ℕ → Type 0) (begin : P 0) (items : List Trees.Item) (f : FileS
   Is = ByByte P
 
   -- what is written stands at such places, but for implicit conversions
-  good : AreGood P (IsLooseInitializer Is) f
+  good : AreGood P (IsLooseInitializer Is) (λ t. Unit {0}) f
   good = record {
     of_text = λ bytes. (tt, tt);
     of_zero = tt;
     of_value = λ value s t i rest full b k. constants_loose Is f.file begin value s t i rest (here s full.0) (record { each = tokens_at P _ b }) k;
+    literal_fits = λ n. tt;
+    local_fits = λ s base d x t full v. tt;
+    object_fits = λ t place m. tt;
   }
     where
       here : (s : Scope) → s.file ≡ f → s.file.file ≡ f.file

@@ -1,4 +1,4 @@
--- What each object of a file holds at first are bytes where string literals initialize it (C99 6.4.5, 6.7.8, 6.9.2).
+-- What each object of a file holds at first are bytes where string literals initialize it (C99 6.4.5, 6.7.8, 6.9.2), and its type is fit.
 use Rattle.std.proofs.Common.{◌≡◌, ◌≢◌, ◌∙◌, ℕ, zero, suc, ◌≤◌, Bool, true, false, refl, sym, ap, subst, List, [], ◌∷◌, ◌++◌, map, inl, inr}
 use Rattle.std.proofs.lemmas.List.Elements.{recursion_from_All}
 use Rattle.std.specs.Prelude.{Option, Some, None, slice_get}
@@ -39,19 +39,19 @@ no_definition : (words : Storage) → object_how words None ≡ defines → ⊥
 no_definition is_extern h = cc
 no_definition words h = cc
 
-among : (Good : Typed.Initializer Noted → Type 0) (f : FileScope) (places : List ℕ) (at : ℕ) → IsMade places at → AreAccounted Good f places
-    → IsAccounted Good f at
-among Good f [] at m h = absurd m
-among Good f (place ∷ places) at (inl e) h = subst (IsAccounted Good f) (sym e) h.0
-among Good f (place ∷ places) at (inr m) h = among Good f places at m h.1
+among : (Good : Typed.Initializer Noted → Type 0) (Fit : CType → Type 0) (f : FileScope) (places : List ℕ) (at : ℕ) → IsMade places at
+    → AreAccounted Good Fit f places → IsAccounted Good Fit f at
+among Good Fit f [] at m h = absurd m
+among Good Fit f (place ∷ places) at (inl e) h = subst (IsAccounted Good Fit f) (sym e) h.0
+among Good Fit f (place ∷ places) at (inr m) h = among Good Fit f places at m h.1
 
 at_place : {A : Type 0} (P : A → Type 0) (xs : List A) → AllByRecursion P xs → (k : ℕ) (x : A) → slice_get xs k ≡ Some x → P x
 at_place P [] h k x e = cc
 at_place P (y ∷ xs) h zero x e = subst P (some_is y x e) h.0
 at_place P (y ∷ xs) h (suc k) x e = at_place P xs h.1 k x e
 
-module _ {P : ℕ → Type 0} {Good : Typed.Initializer Noted → Type 0} (f : FileScope) (count : ℕ) (less : (at : ℕ) → ended f.ends at ≤ count)
-    (good : AreGood P Good f) where
+module _ {P : ℕ → Type 0} {Good : Typed.Initializer Noted → Type 0} {Fit : CType → Type 0} (f : FileScope) (count : ℕ)
+    (less : (at : ℕ) → ended f.ends at ≤ count) (good : AreGood P Good Fit f) where
   abbrev u : ℕ → List ℕ
   u = f.untagged
 
@@ -65,7 +65,7 @@ module _ {P : ℕ → Type 0} {Good : Typed.Initializer Noted → Type 0} (f : F
   IsOwnObject n = (o : AnObject) × (slice_get f.objects n ≡ Some o) × (o.literal ≡ None)
 
   abbrev pub IsObjectName : Bound → Type 0
-  IsObjectName b = (n : ℕ) (t : CType) → b.entity ≡ an_object n t → IsOwnObject n × (b.how ≡ defines → IsDefinedObject n)
+  IsObjectName b = (n : ℕ) (t : CType) → b.entity ≡ an_object n t → IsOwnObject n × (b.how ≡ defines → IsDefinedObject n) × Fit t
 
   abbrev IsNamedBy : ℕ → Type 0
   IsNamedBy from = (b : Bound) × IsBound (at_file_scope f) b × (b.from ≡ from) × IsObjectName b
@@ -104,23 +104,27 @@ module _ {P : ℕ → Type 0} {Good : Typed.Initializer Noted → Type 0} (f : F
   same_object : (i j : ℕ) (s t : CType) → an_object i s ≡ an_object j t → i ≡ j
   same_object i j s t h = cc
 
+  same_type : (i j : ℕ) (s t : CType) → an_object i s ≡ an_object j t → s ≡ t
+  same_type i j s t h = cc
+
   -- ---- declarators
 
   abbrev IsDeclarator : Trees.InitDeclarator → ℕ → Type 0
-  IsDeclarator d from = AreNames (marks_of_declarator u d.declarator ++ a_name from ∷ marks_of_initial u d.value) × AreAccounted Good f (literals_of_value d.value)
+  IsDeclarator d from = AreNames (marks_of_declarator u d.declarator ++ a_name from ∷ marks_of_initial u d.value)
+      × AreAccounted Good Fit f (literals_of_value d.value)
 
   no_marks : AreEnumerated f []
   no_marks = record { all = tt }
 
-  no_value : (v : Option (ℕ × Trees.Expression)) → v ≡ None → AreEnumerated f (marks_of_initial u v) × AreAccounted Good f (literals_of_value v)
-  no_value v h = subst (λ v. AreEnumerated f (marks_of_initial u v) × AreAccounted Good f (literals_of_value v)) (sym h) (no_marks, tt)
+  no_value : (v : Option (ℕ × Trees.Expression)) → v ≡ None → AreEnumerated f (marks_of_initial u v) × AreAccounted Good Fit f (literals_of_value v)
+  no_value v h = subst (λ v. AreEnumerated f (marks_of_initial u v) × AreAccounted Good Fit f (literals_of_value v)) (sym h) (no_marks, tt)
 
   with_name : (d : Trees.InitDeclarator) (from : ℕ) → AreEnumerated f (marks_of_declarator u d.declarator) → AreNames (a_name from ∷ [])
-      → AreEnumerated f (marks_of_initial u d.value) × AreAccounted Good f (literals_of_value d.value) → IsDeclarator d from
+      → AreEnumerated f (marks_of_initial u d.value) × AreAccounted Good Fit f (literals_of_value d.value) → IsDeclarator d from
   with_name d from a b c = (name_both (enumerators_name a) (name_both b (enumerators_name c.0)), c.1)
 
   defined : (words : Storage) (v : Option (ℕ × Trees.Expression)) (place : ℕ) (t : CType) (o : AnObject) (rest : List Lexeme) → AreOfBytes P (spelled_value v rest)
-      → IsDefinition (at_file_scope f) place t v o → AreAccounted Good f (literals_of_value v) × (object_how words v ≡ defines → Holds o × IsGood Good o)
+      → IsDefinition (at_file_scope f) place t v o → AreAccounted Good Fit f (literals_of_value v) × (object_how words v ≡ defines → Holds o × IsGood Good o)
   defined words None place t o rest b h = (tt, λ d. absurd (no_definition words d))
   defined words (Some v) place t o rest b h =
       let k = constants_held f good (Some v) (at_file_scope f) t h.0 rest (refl, refl) b h.1 in
@@ -138,7 +142,11 @@ module _ {P : ℕ → Type 0} {Good : Typed.Initializer Noted → Type 0} (f : F
       let k = defined words d.value place h.1 h.3 rest b h.16 in
       with_name d from (lengths_found f d.declarator (at_file_scope f) base h.0 refl h.4)
       (one_name x from (object_how words d.value) (an_object h.2 h.1) h.15
-      (λ n t e. (subst IsOwnObject (same_object h.2 n h.1 t e) (h.3, h.9, h.12), λ d. subst IsDefinedObject (same_object h.2 n h.1 t e) (h.3, h.9, (k.1 d).0, (k.1 d).1))))
+      (λ n t e. (
+        subst IsOwnObject (same_object h.2 n h.1 t e) (h.3, h.9, h.12),
+        (λ d. subst IsDefinedObject (same_object h.2 n h.1 t e) (h.3, h.9, (k.1 d).0, (k.1 d).1)),
+        subst Fit (same_type h.2 n h.1 t e) (good.object_fits h.1 place h.8),
+      )))
       (value_of_object f count less d.value place h.1 h.3 h.16, k.0)
 
   function_named : (words : Storage) (base : CType) (d : Trees.InitDeclarator) (x : Spelling) (place from : ℕ) → IsFunction f words base d x place from
@@ -169,18 +177,18 @@ module _ {P : ℕ → Type 0} {Good : Typed.Initializer Noted → Type 0} (f : F
 
   declarators_found : (ds : List Trees.InitDeclarator) (words : Storage) (base : CType) (semicolon : ℕ) (rest : List Lexeme)
       → AreOfBytes P (spelled_init_declarators ds rest) → AreFileDeclarators f words base ds semicolon
-      → AreNames (marks_of_declarators u ds semicolon) × AreAccounted Good f (initial_literals ds)
+      → AreNames (marks_of_declarators u ds semicolon) × AreAccounted Good Fit f (initial_literals ds)
   declarators_found [] words base semicolon rest b h = (name_none, tt)
   declarators_found (d ∷ more) words base semicolon rest b h =
       let v = behind_declarator P d.declarator _ (behind_comma P d.comma _ b) in
       let own = declarator_found words base d h.0 (first_declarator d.declarator h.0.from) (name_from d.value (after_declarator more semicolon)) _ v h.2 in
       let later = declarators_found more words base semicolon rest (behind_value P d.value _ v) h.3 in
-      (name_both own.0 later.0, join Good f (literals_of_value d.value) (initial_literals more) own.1 later.1)
+      (name_both own.0 later.0, join Good Fit f (literals_of_value d.value) (initial_literals more) own.1 later.1)
 
   -- ---- items
 
   item_found : (item : Trees.Item) (rest : List Lexeme) → AreOfBytes P (spelled_item item rest) → ErasesItem f item
-      → AreNames (marks_of_item u item) × AreAccounted Good f (made_by_file_item item) × AreOfBytes P rest
+      → AreNames (marks_of_item u item) × AreAccounted Good Fit f (made_by_file_item item) × AreOfBytes P rest
   item_found (Trees.declaration d) rest b h =
       let own = declarators_found d.all (storage_of d.specs) h.0 d.semicolon _ (behind_specifiers P d.specs _ b) h.4 in
       (name_both (enumerators_name (base_found f d.specs (at_file_scope f) h.0 refl h.2)) own.0, own.1, behind_declaration P d rest b)
@@ -196,19 +204,19 @@ module _ {P : ℕ → Type 0} {Good : Typed.Initializer Noted → Type 0} (f : F
       )
 
   items_found : (items : List Trees.Item) (rest : List Lexeme) → AreOfBytes P (spelled_items items rest) → AllByRecursion (ErasesItem f) items
-      → AreNames (marks_of_file u items) × AreAccounted Good f (made_by_file items)
+      → AreNames (marks_of_file u items) × AreAccounted Good Fit f (made_by_file items)
   items_found [] rest b h = (name_none, tt)
   items_found (item ∷ items) rest b h =
       let own = item_found item _ b h.0 in
       let later = items_found items rest own.2 h.1 in
-      (name_both own.0 later.0, join Good f (made_by_file_item item) (made_by_file items) own.1 later.1)
+      (name_both own.0 later.0, join Good Fit f (made_by_file_item item) (made_by_file items) own.1 later.1)
 
   -- ---- objects of the file
 
   module _ (items : List Trees.Item) (b : AreOfBytes P (spell items)) (h : IsFileOf items f)
       (beginnings : AreAscending (scope_beginnings (marks_of_file f.untagged items)))
     where
-      known : AreNames (marks_of_file f.untagged items) × AreAccounted Good f (made_by_file items)
+      known : AreNames (marks_of_file f.untagged items) × AreAccounted Good Fit f (made_by_file items)
       known = items_found items [] b (recursion_from_All (ErasesItem f) items h.each_item)
 
       pub name_known : (k : ℕ) (b : Bound) → slice_get f.names k ≡ Some b → IsObjectName b
@@ -223,18 +231,18 @@ module _ {P : ℕ → Type 0} {Good : Typed.Initializer Noted → Type 0} (f : F
           subst IsObjectName (some_is z.0 b (sym there ∙ e)) z.3
 
       abbrev IsKnown : AnObject → Type 0
-      IsKnown o = Holds o × IsTextual o × IsGood Good o
+      IsKnown o = Holds o × IsTextual o × IsGood Good o × Fit o.ty
 
       pub objects_known : (n : ℕ) (o : AnObject) → slice_get f.objects n ≡ Some o → IsKnown o
       objects_known n o e = by_maker (h.objects n o e)
         where
-          made : IsAccounted Good f o.first → IsKnown o
+          made : IsAccounted Good Fit f o.first → IsKnown o
           made (inl k) =
               let first = mapped_at (λ (o : AnObject). o.first) f.objects n o e in
               let other = mapped_at (λ (o : AnObject). o.first) f.objects k.0 k.1 k.2 ∙ ap Some k.3 in
               let number : k.0 ≡ n = ascending_apart (map (λ o. o.first) f.objects) h.objects_in_order k.0 n o.first other first in
               let there : slice_get f.objects n ≡ Some k.1 = subst (λ n. slice_get f.objects n ≡ Some k.1) number k.2 in
-              subst IsKnown (some_is k.1 o (sym there ∙ e)) (k.4, k.5, k.6)
+              subst IsKnown (some_is k.1 o (sym there ∙ e)) (k.4, k.5, k.6, k.7)
           made (inr k) =
               absurd (at_place (λ (p : AnObject). p.first ≢ o.first) f.objects (recursion_from_All (λ (p : AnObject). p.first ≢ o.first) f.objects k) n o e refl)
 
@@ -245,10 +253,11 @@ module _ {P : ℕ → Type 0} {Good : Typed.Initializer Noted → Type 0} (f : F
           no_literal : o.literal ≡ None → IsTextual o
           no_literal q bytes k = let none : None ≡ Some bytes = sym q ∙ k in cc
 
-          own : IsDeclaring f count less f.names (an_object n o.ty) → IsTextual o
+          own : IsDeclaring f count less f.names (an_object n o.ty) → IsTextual o × Fit o.ty
           own d =
-              let k = (name_known d.0 d.1 d.2 n o.ty d.3).0 in
-              no_literal (subst (λ (o : AnObject). o.literal ≡ None) (some_is k.0 o (sym k.1 ∙ e)) k.2)
+              let known = name_known d.0 d.1 d.2 n o.ty d.3 in
+              let k = known.0 in
+              (no_literal (subst (λ (o : AnObject). o.literal ≡ None) (some_is k.0 o (sym k.1 ∙ e)) k.2), known.2)
 
           absent : {A : Type 0} (i : Typed.Initializer Noted) → o.initial ≡ None → o.initial ≡ Some i → A
           absent i q k = let none : None ≡ Some i = sym q ∙ k in cc
@@ -262,7 +271,8 @@ module _ {P : ℕ → Type 0} {Good : Typed.Initializer Noted → Type 0} (f : F
           by_left false false l k = no_initial l.1
 
           by_maker : IsIntroduced f items n o → IsKnown o
-          by_maker (inl m) = made (among Good f (made_by_file items) o.first m known.1)
+          by_maker (inl m) = made (among Good Fit f (made_by_file items) o.first m known.1)
           by_maker (inr d) =
               let k = by_left (is_defined d.0) (is_tentative d.0) d.3 (λ t. of_name (defining f count less f.names (an_object n o.ty) d.0 d.2 t)) in
-              (k.0, own (declaring f count less f.names (an_object n o.ty) d.0 d.2 d.1), k.1)
+              let declared = own (declaring f count less f.names (an_object n o.ty) d.0 d.2 d.1) in
+              (k.0, declared.0, k.1, declared.1)
