@@ -60,24 +60,25 @@ module _ (d : Declared) (result : CType) where
 
 -- ---- by their numbers
 
-abbrev IsAt : (P : CType → Type 0) → List CType → ℕ → Type 0
-IsAt P all n = (t : CType) × (slice_get all n ≡ Some t) × P t
+-- something stands under a number of a list, and is so
+abbrev pub IsAt : {A : Type 0} → (A → Type 0) → List A → ℕ → Type 0
+IsAt {A} P all n = (x : A) × (slice_get all n ≡ Some x) × P x
 
-behind : (front back : List CType) (t : CType) → slice_get (front ++ t ∷ back) (length front) ≡ Some t
-behind [] back t = refl
-behind (s ∷ front) back t = behind front back t
+behind : {A : Type 0} (front back : List A) (x : A) → slice_get (front ++ x ∷ back) (length front) ≡ Some x
+behind [] back x = refl
+behind (y ∷ front) back x = behind front back x
 
-from_number : (P : CType → Type 0) (front back : List CType) → AllByRecursion (IsAt P (front ++ back)) (count_up (length front) (length back))
+pub from_number : {A : Type 0} (P : A → Type 0) (front back : List A) → AllByRecursion (IsAt P (front ++ back)) (count_up (length front) (length back))
     → AllByRecursion P back
 from_number P front [] h = tt
-from_number P front (t ∷ back) h =
+from_number P front (x ∷ back) h =
     let z = h.0 in
-    let is = some_is z.0 t (sym z.1 ∙ behind front back t) in
-    let count : length (front ++ t ∷ []) ≡ length front + 1 = length-append front (t ∷ []) in (
+    let is = some_is z.0 x (sym z.1 ∙ behind front back x) in
+    let count : length (front ++ x ∷ []) ≡ length front + 1 = length-append front (x ∷ []) in (
       subst P is z.2,
-      from_number P (front ++ t ∷ []) back
-          (subst (λ n. AllByRecursion (IsAt P ((front ++ t ∷ []) ++ back)) (count_up n (length back))) (sym count)
-          (subst (λ all. AllByRecursion (IsAt P all) (count_up (length front + 1) (length back))) (sym (append_assoc front (t ∷ []) back)) h.1)),
+      from_number P (front ++ x ∷ []) back
+          (subst (λ n. AllByRecursion (IsAt P ((front ++ x ∷ []) ++ back)) (count_up n (length back))) (sym count)
+          (subst (λ all. AllByRecursion (IsAt P all) (count_up (length front + 1) (length back))) (sym (append_assoc front (x ∷ []) back)) h.1)),
     )
 
 scalars : (all : List CType) → AreScalars (listed all) → AllByRecursion (λ t. is_scalar t ≡ true) all

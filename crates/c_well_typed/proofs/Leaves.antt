@@ -1,29 +1,24 @@
--- The nodes of a tree whose types no rule tells: names, casts and null pointers. Functions in these types give no arrays, and their arrays have complete
--- elements.
+-- The nodes of a tree whose types no rule tells: names and null pointers, and casts. Something is asked of the types of the ones, and of the others.
 use Rattle.std.proofs.Common.{ℕ, List, [], ◌∷◌, false, true, Some, None}
 use Rattle.std.specs.Prelude.{Option}
 use Rattle.c_types.specs.Types.{CType}
 use Rattle.c_typed.specs.Trees as Trees
 use Rattle.c_erasure.specs.Noted.{Noted, Note, nothing, size_of, Expression, Path, Node, PathNode, unconverted}
-use Rattle.c_well_typed.proofs.WellMade.{IsWellMade}
 
-module _ (count : ℕ) where
-  abbrev W : CType → Type 0
-  W = IsWellMade count
-
+module _ (IsName IsCast : CType → Type 0) where
   abbrev mutual
     pub HasMadeLeaves : Expression → Type 0
     HasMadeLeaves (Trees.expression t at node) = InNode t.ty node
 
     pub InNode : CType → Node → Type 0
     InNode t (Trees.constant v) = Unit {0}
-    InNode t Trees.null = W t
-    InNode t (Trees.function_name f) = W t
+    InNode t Trees.null = IsName t
+    InNode t (Trees.function_name f) = IsName t
     InNode t (Trees.load p) = InPath p
     InNode t (Trees.address_of p) = InPath p
     InNode t (Trees.decay p) = InPath p
     InNode t (Trees.convert e false) = HasMadeLeaves e
-    InNode t (Trees.convert e true) = W t × HasMadeLeaves e
+    InNode t (Trees.convert e true) = IsCast t × HasMadeLeaves e
     InNode t (Trees.unary op x) = HasMadeLeaves x
     InNode t (Trees.binary op x y) = HasMadeLeaves x × HasMadeLeaves y
     InNode t (Trees.compare op x y) = HasMadeLeaves x × HasMadeLeaves y
@@ -47,8 +42,8 @@ module _ (count : ℕ) where
     InPath (Trees.path t at step) = InStep t.ty step
 
     pub InStep : CType → PathNode → Type 0
-    InStep t (Trees.local n) = W t
-    InStep t (Trees.object n) = W t
+    InStep t (Trees.local n) = IsName t
+    InStep t (Trees.object n) = IsName t
     InStep t (Trees.deref e) = HasMadeLeaves e
     InStep t (Trees.index e i) = HasMadeLeaves e × HasMadeLeaves i
     InStep t (Trees.member p r field) = InPath p
@@ -75,7 +70,7 @@ module _ (count : ℕ) where
   whole_leaves (Trees.expression t at (Trees.convert e true)) h = h
   whole_leaves (Trees.expression t at node) h = h
 
-  -- ---- initializers and statements
+  -- ---- initializers
 
   abbrev pub InValue : Trees.PartValue Noted → Type 0
   InValue (Trees.value e) = HasMadeLeaves e
@@ -99,20 +94,26 @@ module _ (count : ℕ) where
   IfAny None = Unit {0}
   IfAny (Some e) = HasMadeLeaves e
 
+-- ---- statements, whose locals are asked of too
+
+module _ (IsName IsCast : CType → Type 0) (IsLocal : ℕ → Type 0) where
+  abbrev N : Expression → Type 0
+  N = HasMadeLeaves IsName IsCast
+
   abbrev mutual
     pub InStatement : Trees.Statement Noted → Type 0
-    InStatement (Trees.evaluate e) = HasMadeLeaves e
+    InStatement (Trees.evaluate e) = N e
     InStatement (Trees.block locals all) = InStatements all
-    InStatement (Trees.declare n initial) = InInitial initial
-    InStatement (Trees.when e one) = HasMadeLeaves e × InStatement one
-    InStatement (Trees.when_else e one other) = HasMadeLeaves e × InStatement one × InStatement other
-    InStatement (Trees.while e body) = HasMadeLeaves e × InStatement body
-    InStatement (Trees.do_while body e) = InStatement body × HasMadeLeaves e
-    InStatement (Trees.for locals start test step body) = InStatements start × IfAny test × IfAny step × InStatement body
-    InStatement (Trees.switch e locals arms) = HasMadeLeaves e × InArms arms
+    InStatement (Trees.declare n initial) = IsLocal n × InInitial IsName IsCast initial
+    InStatement (Trees.when e one) = N e × InStatement one
+    InStatement (Trees.when_else e one other) = N e × InStatement one × InStatement other
+    InStatement (Trees.while e body) = N e × InStatement body
+    InStatement (Trees.do_while body e) = InStatement body × N e
+    InStatement (Trees.for locals start test step body) = InStatements start × IfAny IsName IsCast test × IfAny IsName IsCast step × InStatement body
+    InStatement (Trees.switch e locals arms) = N e × InArms arms
     InStatement Trees.break = Unit {0}
     InStatement Trees.continue = Unit {0}
-    InStatement (Trees.return e) = IfAny e
+    InStatement (Trees.return e) = IfAny IsName IsCast e
 
     pub InStatements : Trees.Statements Noted → Type 0
     InStatements Trees.no_statements = Unit {0}

@@ -45,6 +45,7 @@ pub mod ProgramLoops
 pub mod CountableUnits
 pub mod Moved
 pub mod WellMade
+pub mod NamesInScope
 pub mod NamedTypes
 pub mod KnownTypes
 pub mod Leaves

@@ -1,9 +1,10 @@
--- In what stands for an expression, an initializer or a statement the types of names, casts and null pointers are those that the file names: their
--- functions give no arrays, and their arrays have complete elements (C99 6.5.1, 6.5.4).
-use Rattle.std.proofs.Common.{◌≡◌, ℕ, zero, suc, ◌+◌, ◌≤◌, Bool, true, false, refl, sym, subst, List, [], ◌∷◌, ◌++◌, length, length-append, arith, inl, inr}
-use Rattle.std.specs.Prelude.{◌⊎◌, Option, Some, None}
+-- In what stands for an expression, an initializer or a statement the types of names, casts and null pointers are those that the file names, of which something
+-- is known (C99 6.5.1, 6.5.4).
+use Rattle.std.proofs.Common.{◌≡◌, ℕ, zero, suc, ◌+◌, ◌≤◌, Bool, true, false, sym, subst, List, [], ◌∷◌, ◌++◌, length, length-append, arith, inl, inr}
+use Rattle.std.specs.Prelude.{◌⊎◌, Option, Some, None, slice_get}
 use Rattle.lay_base.specs.declared.place.Place.{Place}
 use Rattle.c_types.specs.declared.ty.IntKind.{IntKind}
+use Rattle.c_types.specs.declared.ty.IntKind.TheVariants.{Char}
 use Rattle.c_types.specs.Types.{CType, integer, pointer, array, structure, Field}
 use Rattle.c_tokens.specs.QuotedScan.{string_bytes}
 use Rattle.c_ast.specs.declared.words.Spelling.{Spelling}
@@ -11,22 +12,22 @@ use Rattle.c_ast.specs.declared.operators.UnaryOp.TheVariants as U
 use Rattle.c_ast.specs.Trees
 use Rattle.c_typed.specs.declared.operators.BinaryOp.{BinaryOp}
 use Rattle.c_typed.specs.declared.operators.BinaryOp.TheVariants as B
+use Rattle.c_typed.specs.declared.program.MentionKind.TheVariants.{Named}
 use Rattle.c_typed.specs.Conversions.{is_scalar}
 use Rattle.c_typed.specs.Trees as Typed
+use Rattle.c_erasure.specs.Erasure.{IsTypeName, IsBase, IsOne, place_of_name}
 use Rattle.c_erasure.specs.Erasure.{literal_of, IsNamed, IsLiteralFor, IsSum, IsJoined, IsCall, IsAddress, IsPointed, IsSize, Values, Erases, AreValues}
 use Rattle.c_erasure.specs.Initializers.{part_at, texts_of, IsText, Initializes, IsOneValue, InitializeElements, InitializeFields, IsInitializer}
 use Rattle.c_erasure.specs.Noted.{Noted, Expression, Path, Node, Thing, an_object, a_value, a_function, a_function_at, a_library_function}
 use Rattle.c_erasure.specs.Noted.{type_of, type_of_path, object_value, value_of, unconverted}
 use Rattle.c_erasure.specs.Operators.{Kind, computes, compares, all_of, any_of, kind_of}
-use Rattle.c_erasure.specs.Scopes.{FileScope, Scope, Entity, typedef, enumerator, a_local, a_parameter, Purpose, in_full, value_alone, type_alone, ended}
-use Rattle.c_erasure.specs.Scopes.{visible}
+use Rattle.c_erasure.specs.Scopes.{Scope, Entity, typedef, enumerator, a_local, a_parameter, Purpose, in_full, value_alone, type_alone, named}
+use Rattle.c_erasure.specs.Scopes.{IsMentioned}
 use Rattle.c_erasure.specs.Scopes as Scopes
-use Rattle.c_erasure.specs.Statements.{Statement, Statements, Arms, followed_by, HasInitializer, with_object, with_variable, DeclareAll, IsLocalDeclaration}
+use Rattle.c_erasure.specs.Statements.{Statement, Statements, Arms, followed_by, HasInitializer, with_object, with_variable, IsVariable, DeclareAll, IsLocalDeclaration}
 use Rattle.c_erasure.specs.Statements.{IsPlainIfAny, IsStart, with_first, IsArranged, ErasesStatement, ErasesItem, EraseItems, ErasesSwitchItem}
 use Rattle.c_erasure.specs.Statements.{EraseSwitchItems}
-use Rattle.c_well_typed.proofs.WellMade.{IsWellMade}
-use Rattle.c_well_typed.proofs.NamedTypes.{IsMadeEntity, IsMadeScope, inside_made, with_local_made}
-use Rattle.c_well_typed.proofs.KnownTypes.{entity_known, base_known, type_known, variable_known}
+use Rattle.c_well_typed.proofs.NamesInScope.{IsEntityOf}
 use Rattle.c_well_typed.proofs.Leaves.{HasMadeLeaves, InNode, InPath, InAll, whole_leaves, InValue, InParts, InInitializer, InInitial, IfAny, InStatement}
 use Rattle.c_well_typed.proofs.Leaves.{InStatements}
 use Rattle.c_well_typed.proofs.Leaves as Leaves
@@ -40,25 +41,39 @@ literal_long [] = omega arith
 literal_long (x ∷ more) =
     let l = literal_long more in let s = length-append (string_bytes x.text) (literal_of more) in omega (arith, l, s)
 
-module _ (f : FileScope) (count : ℕ) (less : (at : ℕ) → ended f.ends at ≤ count)
-    (visible_made : (x : List ℕ) (at : ℕ) (e : Entity) → visible f.names x at ≡ Some e → IsMadeEntity f count less e) where
-  abbrev In : Scope → Type 0
-  In s = IsMadeScope f count less s
+-- What is known where such trees stand, in scopes of some sort: of the types of names, casts and string literals, and of the variables that declarations
+-- declare.
+pub record Knows (IsName IsCast : CType → Type 0) (IsLocal : ℕ → Type 0) (In : Scope → Type 0) : Type 0 where
+  -- a string literal, and what stands for one where nothing is evaluated
+  pub text : (n : ℕ) → 1 ≤ n → IsName (array (integer Char) n) × IsName (pointer (array (integer Char) n))
+  pub entity : (s : Scope) (x : List ℕ) (at : ℕ) (e : Entity) → In s → named s x at ≡ Some e → IsEntityOf IsName e
+  -- what is used of a parameter in a declarator, and of a function, is a pointer to it
+  pub pointer : (t : CType) → IsName t → IsName (pointer t)
+  pub cast : (n : Trees.TypeName) (s : Scope) (t : CType) → In s → IsTypeName s n t → IsMentioned s Named t (place_of_name n) → IsCast t
+  pub inside : (s : Scope) → In s → In (Scopes.inside s)
+  -- a variable of a declaration whose specifiers stand in the first scope, and its declarator in another
+  pub variable : (specs : Trees.Specifiers) (s : Scope) (base : CType) → In s → IsBase (IsOne s specs) specs base
+      → (d : Trees.InitDeclarator) (later : Scope) (x : Spelling) (t : CType) → In later → IsVariable later base d x t → IsName t
+  pub object : (s : Scope) (x : Spelling) (n : ℕ) (t : CType) → In s → IsName t → In (with_object s x n t)
+  pub local : (s : Scope) (x : Spelling) (n : ℕ) (t : CType) → In s → IsName t → In (with_variable s x n t)
+  pub declared : (s : Scope) (base : CType) (d : Trees.InitDeclarator) (x : Spelling) (t : CType) (n : ℕ) → In s → IsName t → IsVariable s base d x t
+      → slice_get s.locals n ≡ Some (record { name = x.text; ty = t }) → IsLocal n
 
+module _ (IsName IsCast : CType → Type 0) (IsLocal : ℕ → Type 0) (In : Scope → Type 0) (known : Knows IsName IsCast IsLocal In) where
   abbrev N : Expression → Type 0
-  N = HasMadeLeaves count
+  N = HasMadeLeaves IsName IsCast
 
   abbrev NPath : Path → Type 0
-  NPath = InPath count
+  NPath = InPath IsName IsCast
 
   -- a node of a value of whatever type
   abbrev NNode : Node → Type 0
-  NNode node = (t : CType) → InNode count t node
+  NNode node = (t : CType) → InNode IsName IsCast t node
 
   abbrev NThing : Thing → Type 0
   NThing (an_object p) = NPath p
   NThing (a_value e) = N e
-  NThing (a_function at g t) = IsWellMade count t
+  NThing (a_function at g t) = IsName t
   NThing (a_function_at e) = N e
   NThing (a_library_function at which) = Unit {0}
 
@@ -76,25 +91,25 @@ module _ (f : FileScope) (count : ℕ) (less : (at : ℕ) → ended f.ends at �
   value_leaves : (th : Thing) (e : Expression) → NThing th → value_of th ≡ Some e → N e
   value_leaves (an_object p) e h v = of_object p (type_of_path p) e h v
   value_leaves (a_value x) e h v = subst N (some_is x e v) h
-  value_leaves (a_function at g t) e h v = subst N (some_is _ e v) h
+  value_leaves (a_function at g t) e h v = subst N (some_is _ e v) (known.pointer t h)
   value_leaves (a_function_at x) e h v = subst N (some_is x e v) h
   value_leaves (a_library_function at which) e h v = cc
 
   -- ---- names, literals and sizes
 
-  name_leaves : (at : Place) (e : Entity) (th : Thing) → IsMadeEntity f count less e → IsNamed at e th → NThing th
+  name_leaves : (at : Place) (e : Entity) (th : Thing) → IsEntityOf IsName e → IsNamed at e th → NThing th
   name_leaves at (typedef t) th m h = absurd h
   name_leaves at (enumerator v) th m h = is_thing th _ h tt
   name_leaves at (Scopes.an_object n t) th m h = is_thing th _ h m
   name_leaves at (Scopes.a_function g t) th m h = is_thing th _ h m
   name_leaves at (Scopes.a_library_function which) th m h = is_thing th _ h tt
   name_leaves at (a_local n t) th m h = is_thing th _ h m
-  name_leaves at (a_parameter t) th m h = is_thing th _ h m
+  name_leaves at (a_parameter t) th m h = is_thing th _ h (known.pointer t m)
 
   literal_leaves : (p : Purpose) (s : Scope) (at : Place) (bytes : List ℕ) (th : Thing) → 1 ≤ length bytes → IsLiteralFor p s at bytes th → NThing th
-  literal_leaves in_full s at bytes th l h = is_thing th _ h.1 (l, refl, tt)
-  literal_leaves value_alone s at bytes th l h = is_thing th _ h (l, refl, tt)
-  literal_leaves type_alone s at bytes th l h = is_thing th _ h (l, refl, tt)
+  literal_leaves in_full s at bytes th l h = is_thing th _ h.1 (known.text (length bytes) l).0
+  literal_leaves value_alone s at bytes th l h = is_thing th _ h (known.text (length bytes) l).1
+  literal_leaves type_alone s at bytes th l h = is_thing th _ h (known.text (length bytes) l).1
 
   size_leaves : (s : Scope) (at by : ℕ) (t : CType) (th : Thing) → IsSize s at by t th → NThing th
   size_leaves s at by t th h = is_thing th _ h.2 tt
@@ -115,7 +130,7 @@ module _ (f : FileScope) (count : ℕ) (less : (at : ℕ) → ended f.ends at �
   joined_leaves all_of x y node h k e = subst NNode (sym e) (λ t. (h, k))
   joined_leaves any_of x y node h k e = subst NNode (sym e) (λ t. (h, k))
 
-  call_leaves : (g : Thing) (xs : Typed.Expressions Noted) (node : Node) → NThing g → InAll count xs → IsCall g xs node → NNode node
+  call_leaves : (g : Thing) (xs : Typed.Expressions Noted) (node : Node) → NThing g → InAll IsName IsCast xs → IsCall g xs node → NNode node
   call_leaves (a_function at n t) xs node h k e = subst NNode (sym e) (λ t. k)
   call_leaves (a_library_function at which) xs node h k e = subst NNode (sym e) (λ t. k)
   call_leaves (a_value x) xs node h k e = subst NNode (sym e) (λ t. (h, k))
@@ -124,7 +139,7 @@ module _ (f : FileScope) (count : ℕ) (less : (at : ℕ) → ended f.ends at �
 
   address_leaves : (at : Place) (operand th : Thing) → NThing operand → IsAddress at operand th → NThing th
   address_leaves at (an_object p) th h e = is_thing th _ e.2 h
-  address_leaves at (a_function from g t) th h e = is_thing th _ e h
+  address_leaves at (a_function from g t) th h e = is_thing th _ e (known.pointer t h)
   address_leaves at (a_function_at x) th h e = is_thing th _ e h
   address_leaves at (a_value x) th h e = absurd e
   address_leaves at (a_library_function from which) th h e = absurd e
@@ -136,11 +151,11 @@ module _ (f : FileScope) (count : ℕ) (less : (at : ℕ) → ended f.ends at �
   -- ---- expressions
 
   valued : (th : Thing) (x : Expression) → value_of th ≡ Some (unconverted x) → NThing th → N x
-  valued th x e h = whole_leaves count x (value_leaves th (unconverted x) h e)
+  valued th x e h = whole_leaves IsName IsCast x (value_leaves th (unconverted x) h e)
 
   mutual
     pub leaves : (a : Trees.Expression) (s : Scope) (th : Thing) → In s → Erases a s th → NThing th
-    leaves (Trees.name x) s th e h = name_leaves _ h.0 th (entity_known f count less visible_made s x.text x.from h.0 e h.1) h.2
+    leaves (Trees.name x) s th e h = name_leaves _ h.0 th (known.entity s x.text x.from h.0 e h.1) h.2
     leaves (Trees.number x v kind) s th e h = is_thing th _ h tt
     leaves (Trees.character x v) s th e h = is_thing th _ h tt
     leaves (Trees.texts all) s th e h = literal_leaves s.purpose s _ _ th (literal_long all) h
@@ -162,7 +177,7 @@ module _ (f : FileScope) (count : ℕ) (less : (at : ℕ) → ended f.ends at �
     leaves (Trees.unary U.Not at a) s th e h = is_thing th _ h.2 (valued h.3.0 h.1 h.3.1 (leaves a s h.3.0 e h.3.2))
     leaves (Trees.sizeof_expression at a) s th e h = size_leaves s at at h.0 th h.2
     leaves (Trees.sizeof_type at left t right) s th e h = size_leaves s at right h.0 th h.3
-    leaves (Trees.cast left t right a) s th e h = is_thing th _ h.5 (type_known f count less visible_made t s h.0 e h.2, valued h.4.0 h.1 h.4.1 (leaves a s h.4.0 e h.4.2))
+    leaves (Trees.cast left t right a) s th e h = is_thing th _ h.5 (known.cast t s h.0 e h.2 h.3, valued h.4.0 h.1 h.4.1 (leaves a s h.4.0 e h.4.2))
     leaves (Trees.binary a op at b) s th e h =
         is_thing th _ h.7 (joined_leaves (kind_of op) h.1 h.2 h.3 (valued h.4.0 h.1 h.4.1 (leaves a s h.4.0 e h.4.2)) (valued h.5.0 h.2 h.5.1 (leaves b s h.5.0 e h.5.2)) h.6 h.0)
     leaves (Trees.cond a question b colon c) s th e h = is_thing th _ h.4 (valued h.5.0 h.1 h.5.1 (leaves a s h.5.0 e h.5.2), valued h.6.0 h.2 h.6.1 (leaves b s h.6.0 e h.6.2), valued h.7.0 h.3 h.7.1 (leaves c s h.7.0 e h.7.2))
@@ -173,10 +188,10 @@ module _ (f : FileScope) (count : ℕ) (less : (at : ℕ) → ended f.ends at �
     leaves (Trees.comma a at b) s th e h = is_thing th _ h.3 (valued h.4.0 h.1 h.4.1 (leaves a s h.4.0 e h.4.2), valued h.5.0 h.2 h.5.1 (leaves b s h.5.0 e h.5.2))
     leaves (Trees.braces left all comma right) s th e h = absurd h
 
-    values_leaves : (s : Scope) (xs : Typed.Expressions Noted) (all : Trees.Arguments) → In s → AreValues s xs all → InAll count xs
-    values_leaves s xs Trees.no_arguments e h = subst (InAll count) (sym h) tt
+    values_leaves : (s : Scope) (xs : Typed.Expressions Noted) (all : Trees.Arguments) → In s → AreValues s xs all → InAll IsName IsCast xs
+    values_leaves s xs Trees.no_arguments e h = subst (InAll IsName IsCast) (sym h) tt
     values_leaves s xs (Trees.and_argument comma a more) e h =
-        subst (InAll count) (sym h.2) (valued h.3.0 h.0 h.3.1 (leaves a s h.3.0 e h.3.2), values_leaves s h.1 more e h.4)
+        subst (InAll IsName IsCast) (sym h.2) (valued h.3.0 h.0 h.3.1 (leaves a s h.3.0 e h.3.2), values_leaves s h.1 more e h.4)
 
   pub value : (a : Trees.Expression) (s : Scope) (x : Expression) → In s → Values (Erases a s) x → N x
   value a s x e h = valued h.0 x h.1 (leaves a s h.0 e h.2)
@@ -184,7 +199,7 @@ module _ (f : FileScope) (count : ℕ) (less : (at : ℕ) → ended f.ends at �
   -- ---- initializers
 
   abbrev Parts : List (Typed.Part Noted) → Type 0
-  Parts = InParts count
+  Parts = InParts IsName IsCast
 
   parts_are : (parts own : List (Typed.Part Noted)) → parts ≡ own → Parts own → Parts parts
   parts_are parts own e h = subst Parts (sym e) h
@@ -239,26 +254,26 @@ module _ (f : FileScope) (count : ℕ) (less : (at : ℕ) → ended f.ends at �
     fields_leaves (Trees.and_argument comma a more) s r k fields at parts e h =
         parts_are parts _ h.5 (both_parts h.2 h.3 (initializes_leaves a s h.0.ty _ h.2 e h.6) (fields_leaves more s r (k + 1) h.1 at h.3 e h.7))
 
-  one_part : (at : ℕ) (v : Typed.PartValue Noted) → Parts (part_at at v) → InValue count v
+  one_part : (at : ℕ) (v : Typed.PartValue Noted) → Parts (part_at at v) → InValue IsName IsCast v
   one_part at v h = h.0
 
   pub initializer_leaves : (a : Trees.Expression) (s : Scope) (t : CType) (i : Typed.Initializer Noted) → In s → IsInitializer a s t i
-      → InInitializer count i
+      → InInitializer IsName IsCast i
   initializer_leaves a s t i e (inl h) =
-      subst (InInitializer count) (sym h.1) (one_part 0 (Typed.value h.0) (initializes_leaves a s t 0 _ e h.3))
+      subst (InInitializer IsName IsCast) (sym h.1) (one_part 0 (Typed.value h.0) (initializes_leaves a s t 0 _ e h.3))
   initializer_leaves a s t i e (inr (inl h)) =
-      subst (InInitializer count) (sym h.1) (one_part 0 (Typed.record_of h.0) (initializes_leaves a s t 0 _ e h.4))
-  initializer_leaves a s t i e (inr (inr h)) = subst (InInitializer count) (sym h.1) (initializes_leaves a s t 0 h.0 e h.3)
+      subst (InInitializer IsName IsCast) (sym h.1) (one_part 0 (Typed.record_of h.0) (initializes_leaves a s t 0 _ e h.4))
+  initializer_leaves a s t i e (inr (inr h)) = subst (InInitializer IsName IsCast) (sym h.1) (initializes_leaves a s t 0 h.0 e h.3)
 
   has_initializer : (v : Option (ℕ × Trees.Expression)) (s : Scope) (t : CType) (i : Option (Typed.Initializer Noted)) → In s
-      → HasInitializer s t v i → InInitial count i
-  has_initializer None s t i e h = subst (InInitial count) (sym h) tt
-  has_initializer (Some v) s t i e h = subst (InInitial count) (sym h.1) (initializer_leaves v.1 s t h.0 e h.2)
+      → HasInitializer s t v i → InInitial IsName IsCast i
+  has_initializer None s t i e h = subst (InInitial IsName IsCast) (sym h) tt
+  has_initializer (Some v) s t i e h = subst (InInitial IsName IsCast) (sym h.1) (initializer_leaves v.1 s t h.0 e h.2)
 
   -- ---- statements, and the scope after them
 
   abbrev All : Statements → Type 0
-  All = InStatements count
+  All = InStatements IsName IsCast IsLocal
 
   all_are : (all own : Statements) → all ≡ own → All own → All all
   all_are all own e h = subst All (sym e) h
@@ -266,28 +281,33 @@ module _ (f : FileScope) (count : ℕ) (less : (at : ℕ) → ended f.ends at �
   scope_is : (s t : Scope) → t ≡ s → In s → In t
   scope_is s t e h = subst In (sym e) h
 
+  abbrev AreVariables : CType → Type 0
+  AreVariables base = (d : Trees.InitDeclarator) (s : Scope) (x : Spelling) (t : CType) → In s → IsVariable s base d x t → IsName t
+
   declarators_leaves : (ds : List Trees.InitDeclarator) (s : Scope) (static : Bool) (base : CType) (all : Statements) (after : Scope) → In s
-      → IsWellMade count base → DeclareAll ds s static base all after → All all × In after
+      → AreVariables base → DeclareAll ds s static base all after → All all × In after
   declarators_leaves [] s static base all after e m h = (all_are all _ h.0 tt, scope_is s after h.1 e)
   declarators_leaves (d ∷ more) s true base all after e m h =
-      let next = with_local_made f count less s _ e (variable_known f count less visible_made d s base h.0 h.1 e m h.3) in
+      let next = known.object s h.0 h.2 h.1 e (m d s h.0 h.1 e h.3) in
       declarators_leaves more (with_object s h.0 h.2 h.1) true base all after next m h.5
   declarators_leaves (d ∷ more) s false base all after e m h =
-      let next = with_local_made f count less s _ e (variable_known f count less visible_made d s base h.0 h.1 e m h.5) in
+      let made = m d s h.0 h.1 e h.5 in
+      let next = known.local s h.0 h.2 h.1 e made in
       let r = declarators_leaves more (with_variable s h.0 h.2 h.1) false base h.4 after next m h.9 in
-      (all_are all _ h.7 (has_initializer d.value (with_variable s h.0 h.2 h.1) h.1 h.3 next h.8, r.0), r.1)
+      let own = known.declared s base d h.0 h.1 h.2 e made h.5 h.6 in
+      (all_are all _ h.7 ((own, has_initializer d.value (with_variable s h.0 h.2 h.1) h.1 h.3 next h.8), r.0), r.1)
 
-  either_way : {A B : Type 0} (d : Trees.Declaration) (s : Scope) (base : CType) (all : Statements) (after : Scope) → In s → IsWellMade count base
+  either_way : {A B : Type 0} (d : Trees.Declaration) (s : Scope) (base : CType) (all : Statements) (after : Scope) → In s → AreVariables base
       → (A × DeclareAll d.all s true base all after) ⊎ (B × DeclareAll d.all s false base all after) → All all × In after
   either_way d s base all after e m (inl k) = declarators_leaves d.all s true base all after e m k.1
   either_way d s base all after e m (inr k) = declarators_leaves d.all s false base all after e m k.1
 
   local_leaves : (d : Trees.Declaration) (s : Scope) (all : Statements) (after : Scope) → In s → IsLocalDeclaration d s all after → All all × In after
-  local_leaves d s all after e h = either_way d s h.0 all after e (base_known f count less visible_made d.specs s h.0 e h.1) h.3
+  local_leaves d s all after e h = either_way d s h.0 all after e (known.variable d.specs s h.0 e h.1) h.3
 
-  plain_leaves : (a : Option Trees.Expression) (s : Scope) (x : Option Expression) → In s → IsPlainIfAny a s x → IfAny count x
-  plain_leaves None s x e h = subst (IfAny count) (sym h) tt
-  plain_leaves (Some a) s x e h = subst (IfAny count) (sym h.1) (value a s h.0 e h.2.0)
+  plain_leaves : (a : Option Trees.Expression) (s : Scope) (x : Option Expression) → In s → IsPlainIfAny a s x → IfAny IsName IsCast x
+  plain_leaves None s x e h = subst (IfAny IsName IsCast) (sym h) tt
+  plain_leaves (Some a) s x e h = subst (IfAny IsName IsCast) (sym h.1) (value a s h.0 e h.2.0)
 
   start_leaves : (start : Trees.ForStart) (s : Scope) (all : Statements) (after : Scope) → In s → IsStart start s all after
       → All all × In after
@@ -300,7 +320,7 @@ module _ (f : FileScope) (count : ℕ) (less : (at : ℕ) → ended f.ends at �
   followed_leaves (Typed.and_statement s a) b h k = (h.0, followed_leaves a b h.1 k)
 
   abbrev InArms : Arms → Type 0
-  InArms = Leaves.InArms count
+  InArms = Leaves.InArms IsName IsCast IsLocal
 
   first_leaves : (all : Statements) (arms : Arms) → All all → InArms arms → InArms (with_first all arms)
   first_leaves Typed.no_statements arms h k = k
@@ -313,14 +333,14 @@ module _ (f : FileScope) (count : ℕ) (less : (at : ℕ) → ended f.ends at �
   arranged_leaves (v ∷ cases) n own later all arms h k e = (all_are all _ e.0 tt, subst InArms (sym e.2) (h, k))
 
   abbrev S : Statement → Type 0
-  S = InStatement count
+  S = InStatement IsName IsCast IsLocal
 
   statement_is : (st own : Statement) → st ≡ own → S own → S st
   statement_is st own e h = subst S (sym e) h
 
   mutual
     statement_leaves : (a : Trees.Statement) (s : Scope) (st : Statement) → In s → ErasesStatement a s st → S st
-    statement_leaves (Trees.block left items right) s st e h = statement_is st _ h.1 (items_leaves items (Scopes.inside s) h.0 (inside_made f count less s e) h.2)
+    statement_leaves (Trees.block left items right) s st e h = statement_is st _ h.1 (items_leaves items (Scopes.inside s) h.0 (known.inside s e) h.2)
     statement_leaves (Trees.evaluate None semicolon) s st e h = statement_is st _ h tt
     statement_leaves (Trees.evaluate (Some a) semicolon) s st e h = statement_is st _ h.1 (value a s h.0 e h.2.0)
     statement_leaves (Trees.when at left a right one) s st e h = statement_is st _ h.2 (value a s h.0 e h.3.0, statement_leaves one s h.1 e h.4)
@@ -330,11 +350,11 @@ module _ (f : FileScope) (count : ℕ) (less : (at : ℕ) → ended f.ends at �
     statement_leaves (Trees.do_while at body while left a right semicolon) s st e h =
         statement_is st _ h.2 (statement_leaves body s h.0 e h.3, value a s h.1 e h.4.0)
     statement_leaves (Trees.for at left start test semicolon step right body) s st e h =
-        let r = start_leaves start (Scopes.inside s) h.0 h.1 (inside_made f count less s e) h.6 in
+        let r = start_leaves start (Scopes.inside s) h.0 h.1 (known.inside s e) h.6 in
         statement_is st _ h.5
         (r.0, plain_leaves test h.1 h.2 r.1 h.7, plain_leaves step h.1 h.3 r.1 h.8, statement_leaves body h.1 h.4 r.1 h.9)
     statement_leaves (Trees.switch at left a right begin items end) s st e h =
-        let r = switch_items_leaves items (Scopes.inside s) h.1 h.2 h.3 (inside_made f count less s e) h.7 in
+        let r = switch_items_leaves items (Scopes.inside s) h.1 h.2 h.3 (known.inside s e) h.7 in
         statement_is st _ h.4 (value a s h.0 e h.5, first_leaves h.2 h.3 r.0 r.1)
     statement_leaves (Trees.break at semicolon) s st e h = statement_is st _ h tt
     statement_leaves (Trees.continue at semicolon) s st e h = statement_is st _ h tt

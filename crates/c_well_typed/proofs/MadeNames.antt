@@ -12,6 +12,8 @@ use Rattle.c_ast.specs.Places.{first_declarator}
 use Rattle.c_ast.specs.Trees
 use Rattle.c_ast.specs.WellFormed as Formed
 use Rattle.c_ast.specs.WellFormed.{is_typename, has_typedef, types_after}
+use Rattle.c_typed.specs.declared.program.MentionKind.{MentionKind}
+use Rattle.c_typed.specs.declared.program.MentionKind.TheVariants.{Object, Named}
 use Rattle.c_erasure.specs.Declarators.{Shape, closed, declared_name}
 use Rattle.c_erasure.specs.Erasure.{IsBound, IsBase, IsOne, Declares}
 use Rattle.c_erasure.specs.Files.{bound, object_how, IsTypedef, IsObject, IsFunction, IsFileDeclarator, AreFileDeclarators, ErasesItem, AreConsistent}
@@ -19,7 +21,7 @@ use Rattle.c_erasure.specs.Files.{MayStandTogether, AreAscending, IsFileOf}
 use Rattle.c_erasure.specs.Marks.{Mark, a_name, marks_of_declarator, marks_of_initial, marks_of_declarators, marks_of_item, marks_of_file, name_from}
 use Rattle.c_erasure.specs.Marks.{after_declarator, scope_beginnings}
 use Rattle.c_erasure.specs.Scopes.{How, declares, defines, Entity, typedef, a_function, a_library_function, Bound, AFunction, FileScope, Scope}
-use Rattle.c_erasure.specs.Scopes.{at_file_scope, visible, named, ended}
+use Rattle.c_erasure.specs.Scopes.{at_file_scope, visible, named, ended, IsListedAt, IsMentioned}
 use Rattle.c_erasure.specs.Scopes as Scopes
 use Rattle.c_erasure.specs.Specifiers.{Storage, storage_of, storage_word, together, no_storage, a_typedef, is_extern, is_static, is_auto, is_register, several}
 use Rattle.c_checking_laws.proofs.WholeFiles.CompleteObjects.{mapped_at}
@@ -31,11 +33,28 @@ use Rattle.c_checking_units.proofs.Tracing.{AreAll, with_names, name_at}
 use Rattle.c_checking_units.proofs.WholeFiles.{visible_is}
 use Rattle.c_well_typed.proofs.Definitions.{declaring, value_of_object}
 use Rattle.c_well_typed.proofs.Enumerators.{IsEnumerated, AreEnumerated, anything, base_found, lengths_found}
-use Rattle.c_well_typed.proofs.NamedTypes.{IsMadeEntity, IsMadeScope, IsMadeShape, named_made, base_made, declarator_made, sized_made, joined}
+use Rattle.c_well_typed.proofs.NamedTypes.{IsMadeEntity, IsMadeScope, IsMadeShape, named_made, base_made, declarator_made, sized_made}
+use Rattle.c_well_typed.proofs.NamesInScope.{joined, IsEntityOf, entity_again}
 use Rattle.c_well_typed.proofs.WellMade.{IsWellMade}
 
 some_is : {A : Type 0} (x y : A) → Some x ≡ Some y → x ≡ y
 some_is x y h = cc
+
+-- ---- mentions
+
+-- the file has a mention for a type, as that of an object or as one that something else names
+abbrev pub IsSpokenIn : FileScope → CType → Type 0
+IsSpokenIn f t = ((at : ℕ) × IsListedAt f.mentions Object t at) ⊎ ((at : ℕ) × IsListedAt f.mentions Named t at)
+
+listed : (f : FileScope) (kind : MentionKind) (t : CType) (at : ℕ) → IsMentioned (at_file_scope f) kind t at → IsListedAt f.mentions kind t at
+listed f kind t at (inl m) = let false_is_true : false ≡ true = m in cc
+listed f kind t at (inr l) = l
+
+pub as_object : (f : FileScope) (t : CType) (at : ℕ) → IsMentioned (at_file_scope f) Object t at → IsSpokenIn f t
+as_object f t at m = inl (at, listed f Object t at m)
+
+pub as_named : (f : FileScope) (t : CType) (at : ℕ) → IsMentioned (at_file_scope f) Named t at → IsSpokenIn f t
+as_named f t at m = inr (at, listed f Named t at m)
 
 -- ---- one name stands for one thing
 
@@ -163,10 +182,13 @@ module _ (f : FileScope) (count : ℕ) (less : (at : ℕ) → ended f.ends at �
         (λ at consts d w. w) (λ left d right w. w.1) (λ d left bound right w. w.1) (λ d left all right w. w.1) (λ d left all right w. (true, w.2.1)) parameters
         typedef_made d F t shape in_file w m h
 
-  -- ---- names of the file scope
+  -- ---- names of the file scope, for whose types the file has mentions
+
+  abbrev Of : Entity → Type 0
+  Of e = IsEntityOf (λ t. W t × IsSpokenIn f t) e
 
   abbrev IsMadeName : ℕ → Type 0
-  IsMadeName from = (b : Bound) × IsBound F b × (b.from ≡ from) × IsMadeEntity f count less b.entity
+  IsMadeName from = (b : Bound) × IsBound F b × (b.from ≡ from) × Of b.entity
 
   record AreNames (u : List Mark) : Type 0 where
     pub all : AreAll IsMadeName anything u
@@ -179,10 +201,10 @@ module _ (f : FileScope) (count : ℕ) (less : (at : ℕ) → ended f.ends at �
 
   enumerators_name : {a : List Mark} → AreEnumerated f a → AreNames a
   enumerators_name {a} x = record {
-    all = with_names (IsEnumerated f) IsMadeName anything a (λ from h. (h.0, h.2, h.3, subst (IsMadeEntity f count less) (sym h.4) tt)) x.all;
+    all = with_names (IsEnumerated f) IsMadeName anything a (λ from h. (h.0, h.2, h.3, subst Of (sym h.4) tt)) x.all;
   }
 
-  one_name : (x : Spelling) (from : ℕ) (how : How) (e : Entity) → IsBound F (bound x from how e) → IsMadeEntity f count less e → AreNames (a_name from ∷ [])
+  one_name : (x : Spelling) (from : ℕ) (how : How) (e : Entity) → IsBound F (bound x from how e) → Of e → AreNames (a_name from ∷ [])
   one_name x from how e h m = record { all = ((bound x from how e, h, refl, m), tt) }
 
   abbrev IsDeclarator : Trees.InitDeclarator → ℕ → Type 0
@@ -200,20 +222,20 @@ module _ (f : FileScope) (count : ℕ) (less : (at : ℕ) → ended f.ends at �
         → IsDeclarator d from
     typedef_found d x place from w h =
         with_name d from (lengths_found f d.declarator F base (closed h.0) refl h.3)
-        (one_name x from defines (typedef h.0) h.5 (declarator_typed types known d.declarator base (closed h.0) w m h.3)) (no_value d.value h.1)
+        (one_name x from defines (typedef h.0) h.5 (declarator_typed types known d.declarator base (closed h.0) w m h.3, as_named f h.0 place h.2)) (no_value d.value h.1)
 
     object_found : (words : Storage) (d : Trees.InitDeclarator) (x : Spelling) (place from : ℕ) → Formed.IsDeclarator types d.declarator
         → IsObject f words base d x place from → IsDeclarator d from
     object_found words d x place from w h =
         let t = sized_made f count less h.0 d.value F h.1 (declarator_typed types known d.declarator base h.0 w m h.4) h.5 in
         with_name d from (lengths_found f d.declarator F base h.0 refl h.4)
-        (one_name x from (object_how words d.value) (Scopes.an_object h.2 h.1) h.15 t) (value_of_object f count less d.value place h.1 h.3 h.16)
+        (one_name x from (object_how words d.value) (Scopes.an_object h.2 h.1) h.15 (t, as_object f h.1 place h.8)) (value_of_object f count less d.value place h.1 h.3 h.16)
 
     function_named : (words : Storage) (d : Trees.InitDeclarator) (x : Spelling) (place from : ℕ) → Formed.IsDeclarator types d.declarator
         → IsFunction f words base d x place from → AreNames (a_name from ∷ [])
     function_named words d x place from w (t, v, de, fn, me, inl k) = one_name x from declares (a_library_function k.0) k.4 tt
     function_named words d x place from w (t, v, de, fn, me, inr k) =
-        one_name x from declares (a_function k.0 t) k.8 (declarator_typed types known d.declarator base (closed t) w m de)
+        one_name x from declares (a_function k.0 t) k.8 (declarator_typed types known d.declarator base (closed t) w m de, as_named f t place me)
 
     function_found : (words : Storage) (d : Trees.InitDeclarator) (x : Spelling) (place from : ℕ) → Formed.IsDeclarator types d.declarator
         → IsFunction f words base d x place from → IsDeclarator d from
@@ -280,7 +302,7 @@ module _ (f : FileScope) (count : ℕ) (less : (at : ℕ) → ended f.ends at �
       let m = declarator_typed types known d h.0 (closed (function h.1 h.2)) w.1 (base_typed types known specs h.0 w.0 h.7) h.10 in
       name_both
       (name_both (enumerators_name (base_found f specs F h.0 refl h.7)) (enumerators_name (lengths_found f d F h.0 (closed (function h.1 h.2)) refl h.10)))
-      (one_name h.3 left defines (a_function h.4 h.5.ty) h.20 (subst W (sym h.15) m))
+      (one_name h.3 left defines (a_function h.4 h.5.ty) h.20 (subst (λ t. W t × IsSpokenIn f t) (sym h.15) (m, as_named f (function h.1 h.2) (first_declarator d h.3.from) h.12)))
 
   items_found : (types : List (List ℕ)) → AreKnown types → (items : List Trees.Item) → Formed.AreItems types items → AllByRecursion (ErasesItem f) items
       → AreNames (marks_of_file u items)
@@ -292,7 +314,7 @@ module _ (f : FileScope) (count : ℕ) (less : (at : ℕ) → ended f.ends at �
 
   module _ (items : List Trees.Item) (well : Formed.AreItems [] items) (h : IsFileOf items f)
       (beginnings : AreAscending (scope_beginnings (marks_of_file f.untagged items))) where
-    name_made : (k : ℕ) (b : Bound) → slice_get f.names k ≡ Some b → IsMadeEntity f count less b.entity
+    name_made : (k : ℕ) (b : Bound) → slice_get f.names k ≡ Some b → Of b.entity
     name_made k b e =
         let names = subst AreAscending (sym h.names) beginnings in
         let from : slice_get (map (λ (b : Bound). b.from) f.names) k ≡ Some b.from = mapped_at (λ (b : Bound). b.from) f.names k b e in
@@ -301,13 +323,20 @@ module _ (f : FileScope) (count : ℕ) (less : (at : ℕ) → ended f.ends at �
         let other = mapped_at (λ (b : Bound). b.from) f.names z.1.0 z.0 z.1.1 ∙ ap Some z.2 in
         let number : z.1.0 ≡ k = ascending_apart (map (λ b. b.from) f.names) names z.1.0 k b.from other from in
         let there : slice_get f.names k ≡ Some z.0 = subst (λ k. slice_get f.names k ≡ Some z.0) number z.1.1 in
-        subst (λ (b : Bound). IsMadeEntity f count less b.entity) (some_is z.0 b (sym there ∙ e)) z.3
+        subst (λ (b : Bound). Of b.entity) (some_is z.0 b (sym there ∙ e)) z.3
+
+    -- what is visible has such a type, for which the file has a mention
+    pub visible_spoken : (x : List ℕ) (at : ℕ) (e : Entity) → visible f.names x at ≡ Some e → IsEntityOf (λ t. W t × IsSpokenIn f t) e
+    visible_spoken x at e v = let z = visible_is f.names x at e v in subst Of z.5 (name_made z.0 z.1 z.2)
 
     pub visible_made : (x : List ℕ) (at : ℕ) (e : Entity) → visible f.names x at ≡ Some e → IsMadeEntity f count less e
-    visible_made x at e v = let z = visible_is f.names x at e v in subst (IsMadeEntity f count less) z.5 (name_made z.0 z.1 z.2)
+    visible_made x at e v = entity_again (λ t. W t × IsSpokenIn f t) W (λ t m. m.0) e (visible_spoken x at e v)
 
-    pub function_made : (n : ℕ) (g : AFunction) → slice_get f.functions n ≡ Some g → W g.ty
-    function_made n g e =
+    pub function_spoken : (n : ℕ) (g : AFunction) → slice_get f.functions n ≡ Some g → W g.ty × IsSpokenIn f g.ty
+    function_spoken n g e =
         let d = h.functions n g e in
         let b = declaring f count less f.names (a_function n g.ty) d.0 d.2 d.1 in
-        subst (IsMadeEntity f count less) b.3 (name_made b.0 b.1 b.2)
+        subst Of b.3 (name_made b.0 b.1 b.2)
+
+    pub function_made : (n : ℕ) (g : AFunction) → slice_get f.functions n ≡ Some g → W g.ty
+    function_made n g e = (function_spoken n g e).0

@@ -21,11 +21,14 @@ use Rattle.c_well_typed.proofs.Fitting.{promoting_is}
 use Rattle.c_well_typed.proofs.Leaves.{InValue, InParts, InInitializer, InInitial, IfAny, InStatement, InStatements, InArms}
 use Rattle.c_well_typed.proofs.MadeNodes.{AreWhole, joined, bare_whole, number_whole, all_whole, path_whole}
 use Rattle.c_well_typed.proofs.RecognisedStatements.{typed_value, typed_part, typed_initial, typed_statement, typed_statements, typed_arms}
-use Rattle.c_well_typed.proofs.WellMade.{IsWellMade}
+use Rattle.c_well_typed.proofs.WellMade.{IsMade}
 
-module _ (d : Declared) (count : ℕ) (functions : (n : ℕ) (t : CType) → slice_get d.functions n ≡ Some t → IsWellMade count t)
-    (fields : (r k : ℕ) (t : CType) → field_type d.records r k ≡ Some t → IsWellMade count t)
-    (H : CType → Type 0) (of_made : (t : CType) → IsWellMade count t → H t) where
+module _ (d : Declared) (IsElement : CType → Type 0) (functions : (n : ℕ) (t : CType) → slice_get d.functions n ≡ Some t → IsMade IsElement t)
+    (fields : (r k : ℕ) (t : CType) → field_type d.records r k ≡ Some t → IsMade IsElement t)
+    (H : CType → Type 0) (of_made : (t : CType) → IsMade IsElement t → H t) where
+  abbrev W : CType → Type 0
+  W = IsMade IsElement
+
   abbrev A : List Noted → Type 0
   A = AreWhole H
 
@@ -35,54 +38,54 @@ module _ (d : Declared) (count : ℕ) (functions : (n : ℕ) (t : CType) → sli
   abbrev pub HasParts : CType → Type 0
   HasParts t = (at : ℕ) (u : CType) → IsPart d.records t at u → is_scalar u ≡ true → H u
 
-  value_whole : (t : CType) (v : Trees.PartValue Noted) → (is_scalar t ≡ true → H t) → IsTypedValue d t (typed_value v) → InValue count v
+  value_whole : (t : CType) (v : Trees.PartValue Noted) → (is_scalar t ≡ true → H t) → IsTypedValue d t (typed_value v) → InValue W W v
       → A (types_in_value v)
-  value_whole t (Trees.value e) s h l = all_whole d count functions fields H of_made e h.0 l (subst H (sym h.2.1) (s h.1))
-  value_whole t (Trees.record_of p) s h l = path_whole d count functions fields H of_made p h.1 l
+  value_whole t (Trees.value e) s h l = all_whole d IsElement functions fields H of_made e h.0 l (subst H (sym h.2.1) (s h.1))
+  value_whole t (Trees.record_of p) s h l = path_whole d IsElement functions fields H of_made p h.1 l
   value_whole t (Trees.text bytes) s h l = tt
 
-  parts_whole : (t : CType) (all : List (Trees.Part Noted)) → HasParts t → AllByRecursion (IsTypedPart d t) (map typed_part all) → InParts count all
+  parts_whole : (t : CType) (all : List (Trees.Part Noted)) → HasParts t → AllByRecursion (IsTypedPart d t) (map typed_part all) → InParts W W all
       → A (flat_map (λ part. types_in_value part.value) all)
   parts_whole t [] s h l = tt
   parts_whole t (part ∷ all) s h l =
       joined H (types_in_value part.value) (flat_map (λ part. types_in_value part.value) all)
       (value_whole h.0.0 part.value (s part.offset h.0.0 h.0.1) h.0.2 l.0) (parts_whole t all s h.1 l.1)
 
-  pub initializer_whole : (t : CType) (i : Trees.Initializer Noted) → HasParts t → IsTypedInitializer d t (typed_initial i) → InInitializer count i
+  pub initializer_whole : (t : CType) (i : Trees.Initializer Noted) → HasParts t → IsTypedInitializer d t (typed_initial i) → InInitializer W W i
       → A (types_in_initializer i)
   initializer_whole t (Trees.whole e) s h l = value_whole t (Trees.value e) (s 0 t (itself t)) h l
   initializer_whole t (Trees.whole_record p) s h l = value_whole t (Trees.record_of p) (s 0 t (itself t)) h l
   initializer_whole t (Trees.parts all) s h l = parts_whole t all s (recursion_from_All (IsTypedPart d t) (map typed_part all) h.1) l
 
-  initial_whole : (t : CType) (i : Option (Trees.Initializer Noted)) → HasParts t → IsInitialized d t (option_map typed_initial i) → InInitial count i
+  initial_whole : (t : CType) (i : Option (Trees.Initializer Noted)) → HasParts t → IsInitialized d t (option_map typed_initial i) → InInitial W W i
       → A (types_in_initial i)
   initial_whole t None s h l = tt
   initial_whole t (Some i) s h l = initializer_whole t i s h l
 
   -- ---- statements
 
-  condition_whole : (e : Option Expression) → IsCondition d (option_map typed e) → IfAny count e → A (types_if_any e)
+  condition_whole : (e : Option Expression) → IsCondition d (option_map typed e) → IfAny W W e → A (types_if_any e)
   condition_whole None h l = tt
-  condition_whole (Some e) h l = all_whole d count functions fields H of_made e h.0 l (bare_whole d count functions fields H of_made e h.1.0 h.0 l)
+  condition_whole (Some e) h l = all_whole d IsElement functions fields H of_made e h.0 l (bare_whole d IsElement functions fields H of_made e h.1.0 h.0 l)
 
-  effect_whole : (e : Option Expression) → IsEffect d (option_map typed e) → IfAny count e → A (types_if_any e)
+  effect_whole : (e : Option Expression) → IsEffect d (option_map typed e) → IfAny W W e → A (types_if_any e)
   effect_whole None h l = tt
-  effect_whole (Some e) h l = all_whole d count functions fields H of_made e h.0 l (bare_whole d count functions fields H of_made e h.1 h.0 l)
+  effect_whole (Some e) h l = all_whole d IsElement functions fields H of_made e h.0 l (bare_whole d IsElement functions fields H of_made e h.1 h.0 l)
 
   switched : (e : Expression) → is_integer (ty (typed e)) ≡ true → H (ty (typed e))
-  switched e i = number_whole d count functions fields H of_made (ty (typed e)) i
+  switched e i = number_whole d IsElement functions fields H of_made (ty (typed e)) i
 
-  module _ (result : CType) (whole : H result) (locals : (n : ℕ) (t : CType) → slice_get d.locals n ≡ Some t → HasParts t) where
-    returned_whole : (e : Option Expression) → IsReturned d result (option_map typed e) → IfAny count e → A (types_if_any e)
+  module _ (IsLocal : ℕ → Type 0) (result : CType) (whole : H result) (locals : (n : ℕ) (t : CType) → slice_get d.locals n ≡ Some t → HasParts t) where
+    returned_whole : (e : Option Expression) → IsReturned d result (option_map typed e) → IfAny W W e → A (types_if_any e)
     returned_whole None h l = tt
-    returned_whole (Some e) h l = all_whole d count functions fields H of_made e h.0 l (subst H (sym h.1.1) whole)
+    returned_whole (Some e) h l = all_whole d IsElement functions fields H of_made e h.0 l (subst H (sym h.1.1) whole)
 
     mutual
-      pub statement_whole : (s : Trees.Statement Noted) (loop switch : Bool) → IsTypedStatement d result loop switch (typed_statement s) → InStatement count s
+      pub statement_whole : (s : Trees.Statement Noted) (loop switch : Bool) → IsTypedStatement d result loop switch (typed_statement s) → InStatement W W IsLocal s
           → A (types_in_statement s)
       statement_whole (Trees.evaluate e) loop switch h l = effect_whole (Some e) h l
       statement_whole (Trees.block locals all) loop switch h l = statements_whole all loop switch h.1 l
-      statement_whole (Trees.declare n initial) loop switch h l = initial_whole h.0 initial (locals n h.0 h.1) h.3 l
+      statement_whole (Trees.declare n initial) loop switch h l = initial_whole h.0 initial (locals n h.0 h.1) h.3 l.1
       statement_whole (Trees.when e one) loop switch h l =
           joined H (types_in e) (types_in_statement one) (condition_whole (Some e) (h.0, h.1) l.0) (statement_whole one loop switch h.2 l.1)
       statement_whole (Trees.when_else e one other) loop switch h l =
@@ -101,19 +104,19 @@ module _ (d : Declared) (count : ℕ) (functions : (n : ℕ) (t : CType) → sli
           (statement_whole body true switch h.4 l.3)
       statement_whole (Trees.switch e locals arms) loop switch h l =
           joined H (types_in e) (types_in_arms arms)
-          (all_whole d count functions fields H of_made e h.0 l.0 (switched e (promoting_is (bare_ty (typed e)) (ty (typed e)) h.1).1))
+          (all_whole d IsElement functions fields H of_made e h.0 l.0 (switched e (promoting_is (bare_ty (typed e)) (ty (typed e)) h.1).1))
           (arms_whole arms loop h.6 l.1)
       statement_whole Trees.break loop switch h l = tt
       statement_whole Trees.continue loop switch h l = tt
       statement_whole (Trees.return e) loop switch h l = returned_whole e h l
 
-      pub statements_whole : (all : Trees.Statements Noted) (loop switch : Bool) → AreTyped d result loop switch (typed_statements all) → InStatements count all
+      pub statements_whole : (all : Trees.Statements Noted) (loop switch : Bool) → AreTyped d result loop switch (typed_statements all) → InStatements W W IsLocal all
           → A (types_in_statements all)
       statements_whole Trees.no_statements loop switch h l = tt
       statements_whole (Trees.and_statement s more) loop switch h l =
           joined H (types_in_statement s) (types_in_statements more) (statement_whole s loop switch h.0 l.0) (statements_whole more loop switch h.1 l.1)
 
-      arms_whole : (arms : Trees.Arms Noted) (loop : Bool) → AreTypedArms d result loop (typed_arms arms) → InArms count arms → A (types_in_arms arms)
+      arms_whole : (arms : Trees.Arms Noted) (loop : Bool) → AreTypedArms d result loop (typed_arms arms) → InArms W W IsLocal arms → A (types_in_arms arms)
       arms_whole Trees.no_arms loop h l = tt
       arms_whole (Trees.and_arm cases is_default all more) loop h l =
           joined H (types_in_statements all) (types_in_arms more) (statements_whole all loop true h.0 l.0) (arms_whole more loop h.1 l.1)

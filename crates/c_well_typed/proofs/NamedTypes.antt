@@ -1,32 +1,26 @@
 -- The types that specifiers, declarators and type names name (C99 6.7.2, 6.7.5, 6.7.6): their functions give and take no arrays, and their arrays have
 -- elements of complete types, where it is so of the types for which the names of typedefs stand.
-use Rattle.std.proofs.Common.{◌≡◌, ℕ, ◌≤◌, Bool, true, false, refl, sym, subst, cond, List, [], ◌∷◌, ◌++◌, inl, inr}
+use Rattle.std.proofs.Common.{◌≡◌, ℕ, ◌≤◌, Bool, true, false, sym, subst, cond, List, [], ◌∷◌, inl, inr}
 use Rattle.std.specs.Prelude.{Option, Some, None}
 use Rattle.std.specs.List.{AllByRecursion}
-use Rattle.std.specs.Option.{option_map}
-use Rattle.std.specs.Str.{bytes_eq}
 use Rattle.c_types.specs.Objects.{is_object}
 use Rattle.c_types.specs.Types.{CType, CTypes, pointer, array, function}
 use Rattle.c_ast.specs.declared.words.Spelling.{Spelling}
 use Rattle.c_ast.specs.Trees
 use Rattle.c_erasure.specs.Declarators.{Shape, closed, open_array, declared_name, parameter_type}
 use Rattle.c_erasure.specs.Erasure.{IsBase, IsOne, Specifies, Declares, AreListed, with_parameter_if_named}
-use Rattle.c_erasure.specs.Scopes.{Entity, typedef, enumerator, an_object, a_function, a_library_function, a_local, a_parameter, Bound, FileScope, Scope}
-use Rattle.c_erasure.specs.Scopes.{inside, with_name, with_local, with_parameter, declared_in, innermost, visible, named, or_else, ended}
+use Rattle.c_erasure.specs.Scopes.{Entity, typedef, Bound, FileScope, Scope}
+use Rattle.c_erasure.specs.Scopes.{inside, with_local, visible, named, ended}
 use Rattle.c_erasure.specs.Statements.{IsSized}
 use Rattle.c_erasure.specs.Specifiers.{Words, words_of, same_words, table, found_in, named_by}
 use Rattle.c_checking_laws.proofs.CompletePart.{complete_stays}
 use Rattle.c_ast.specs.declared.operators.SpecifierKeyword.{SpecifierKeyword}
 use Rattle.c_erasure.specs.Specifiers.{counted}
+use Rattle.c_well_typed.proofs.NamesInScope.{IsEntityOf, AreNamesOf, IsScopeOf, named_in, with_local_in, inside_of, with_parameter_of}
 use Rattle.c_well_typed.proofs.WellMade.{IsWellMade, AreWellMade}
 
 some_is : {A : Type 0} (x y : A) → Some x ≡ Some y → x ≡ y
 some_is x y h = cc
-
--- of each of two lists
-pub joined : {A : Type 0} (P : A → Type 0) (xs ys : List A) → AllByRecursion P xs → AllByRecursion P ys → AllByRecursion P (xs ++ ys)
-joined P [] ys h k = k
-joined P (x ∷ xs) ys h k = (h.0, joined P xs ys h.1 k)
 
 module _ (f : FileScope) (count : ℕ) (less : (at : ℕ) → ended f.ends at ≤ count) where
   abbrev W : CType → Type 0
@@ -35,66 +29,27 @@ module _ (f : FileScope) (count : ℕ) (less : (at : ℕ) → ended f.ends at �
   -- ---- what a name stands for
 
   abbrev pub IsMadeEntity : Entity → Type 0
-  IsMadeEntity (typedef t) = W t
-  IsMadeEntity (enumerator v) = Unit {0}
-  IsMadeEntity (an_object n t) = W t
-  IsMadeEntity (a_function n t) = W t
-  IsMadeEntity (a_library_function which) = Unit {0}
-  IsMadeEntity (a_local n t) = W t
-  IsMadeEntity (a_parameter t) = W t
+  IsMadeEntity e = IsEntityOf W e
 
   abbrev pub AreMadeNames : List Bound → Type 0
-  AreMadeNames block = AllByRecursion (λ b. IsMadeEntity b.entity) block
+  AreMadeNames block = AreNamesOf W block
 
-  abbrev pub AreMadeBlocks : List (List Bound) → Type 0
-  AreMadeBlocks blocks = AllByRecursion AreMadeNames blocks
-
-  -- a scope of the file, whose blocks declare such names
   abbrev pub IsMadeScope : Scope → Type 0
-  IsMadeScope s = (s.file ≡ f) × AreMadeBlocks s.blocks
+  IsMadeScope s = IsScopeOf f W s
 
-  declared_made : (block : List Bound) (x : List ℕ) (c : Bound) → AreMadeNames block → declared_in block x ≡ Some c → IsMadeEntity c.entity
-  declared_made [] x c h e = cc
-  declared_made (b ∷ block) x c h e = by_test (bytes_eq b.name x) e (declared_made block x c h.1)
-    where
-      by_test : (t : Bool) → cond t (Some b) (declared_in block x) ≡ Some c → (declared_in block x ≡ Some c → IsMadeEntity c.entity) → IsMadeEntity c.entity
-      by_test true e k = subst (λ (b : Bound). IsMadeEntity b.entity) (some_is b c e) h.0
-      by_test false e k = k e
-
-  innermost_made : (blocks : List (List Bound)) (x : List ℕ) (e : Entity) → AreMadeBlocks blocks → innermost blocks x ≡ Some e → IsMadeEntity e
-  innermost_made [] x e h k = cc
-  innermost_made (block ∷ outer) x e h k = by_block (declared_in block x) refl k (innermost_made outer x e h.1)
-    where
-      by_block : (o : Option Bound) → declared_in block x ≡ o → or_else (option_map (λ (b : Bound). b.entity) o) (innermost outer x) ≡ Some e
-          → (innermost outer x ≡ Some e → IsMadeEntity e) → IsMadeEntity e
-      by_block None d k again = again k
-      by_block (Some c) d k again = subst IsMadeEntity (some_is c.entity e k) (declared_made block x c h.0 d)
-
-  -- a name stands for what a block declares, or what the file does
   pub named_made : (s : Scope) (x : List ℕ) (at : ℕ) (e : Entity) → IsMadeScope s → (visible f.names x at ≡ Some e → IsMadeEntity e)
       → named s x at ≡ Some e → IsMadeEntity e
-  named_made s x at e i known h = by_blocks (innermost s.blocks x) refl h
-    where
-      by_blocks : (o : Option Entity) → innermost s.blocks x ≡ o → or_else o (visible s.file.names x at) ≡ Some e → IsMadeEntity e
-      by_blocks None b h = known (subst (λ (f : FileScope). visible f.names x at ≡ Some e) i.0 h)
-      by_blocks (Some c) b h = subst IsMadeEntity (some_is c e h) (innermost_made s.blocks x c i.1 b)
-
-  with_name_made : (blocks : List (List Bound)) (b : Bound) → AreMadeBlocks blocks → IsMadeEntity b.entity → AreMadeBlocks (with_name blocks b)
-  with_name_made [] b h m = ((m, tt), tt)
-  with_name_made (block ∷ outer) b h m = (joined (λ (b : Bound). IsMadeEntity b.entity) block (b ∷ []) h.0 (m, tt), h.1)
+  named_made = named_in f W
 
   pub with_local_made : (s : Scope) (b : Bound) → IsMadeScope s → IsMadeEntity b.entity → IsMadeScope (with_local s b)
-  with_local_made s b i m = (i.0, with_name_made s.blocks b i.1 m)
+  with_local_made = with_local_in f W
 
   pub inside_made : (s : Scope) → IsMadeScope s → IsMadeScope (inside s)
-  inside_made s i = (i.0, (tt, i.1))
+  inside_made = inside_of f W
 
   pub parameter_in : (s : Scope) (x : Option Spelling) (t : CType) → IsMadeScope s → W t → IsMadeScope (with_parameter_if_named s x t)
   parameter_in s None t i m = i
-  parameter_in s (Some x) t i m = with_name_in
-    where
-      with_name_in : IsMadeScope (with_parameter s x.text x.from t)
-      with_name_in = (i.0, with_name_made s.blocks _ i.1 m)
+  parameter_in s (Some x) t i m = with_parameter_of f W s x t i m
 
   -- ---- words
 

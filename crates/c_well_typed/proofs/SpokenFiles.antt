@@ -142,7 +142,7 @@ module _ (f : FileScope) (count : ℕ) (less : (at : ℕ) → ended f.ends at �
       let own = Spoken.place_told f count less visible_made H of_made sized F Named (function h.1 h.2) (first_declarator d h.3.from) in_file h.12 (of_made (function h.1 h.2) t) refl in
       let there = subst (Spoken.IsSpoken f count less visible_made H of_made sized) (first_named d h.3 h.8 h.3.from left) own in
       let body = h.22 in
-      let i = body_scope f count less (parameters_of d) h.2 h.5.parameters h.6 (h.5.parameters ++ h.5.locals) h.21 t.2 in
+      let i = body_scope f (λ t. is_object count t ≡ true) (parameters_of d) h.2 h.5.parameters h.6 (h.5.parameters ++ h.5.locals) h.21 t.2 in
       let s = items_spoken f count less visible_made H of_made sized items (in_body f h.6 (h.5.parameters ++ h.5.locals)) body.0 (i, refl) body.2 in
       record {
         marks = Spoken.marks_both f count less visible_made H of_made sized (marks_of_specifiers u specs ++ marks_of_declarator u d) (a_name left ∷ [])

@@ -28,7 +28,8 @@ use Rattle.c_checking_laws.proofs.CompletePart.{complete_stays}
 use Rattle.c_checking_units.proofs.Tracing as Tracing
 use Rattle.c_checking_units.proofs.Tracing.{AreAll}
 use Rattle.c_well_typed.proofs.KnownTypes.{base_known, declarator_known, listed_known, type_known}
-use Rattle.c_well_typed.proofs.NamedTypes.{IsMadeEntity, IsMadeScope, inside_made, parameter_in, parameter_made, elements, joined}
+use Rattle.c_well_typed.proofs.NamedTypes.{IsMadeEntity, IsMadeScope, inside_made, parameter_in, parameter_made, elements}
+use Rattle.c_well_typed.proofs.NamesInScope.{joined}
 use Rattle.c_well_typed.proofs.WellMade.{IsWellMade, AreWellMade}
 
 pub value_told : (p : Purpose) → is_measured p ≡ false → is_measured (purpose_of_value p) ≡ false

@@ -96,7 +96,7 @@ without_is : (all : Typed.Statements Noted) → without_notes all ≡ typed_stat
 without_is Typed.no_statements = refl
 without_is (Typed.and_statement s more) = ap (Typed.and_statement (typed_statement s)) (without_is more)
 
-count_up_is : (from count : ℕ) → Files.count_up from count ≡ count_up from count
+pub count_up_is : (from count : ℕ) → Files.count_up from count ≡ count_up from count
 count_up_is from zero = refl
 count_up_is from (suc count) = ap (λ l. from ∷ l) (count_up_is (from + 1) count)
 

@@ -1,5 +1,5 @@
--- Types of which each function gives a number, a pointer or nothing and takes numbers and pointers, and each array has elements of a complete type, and at
--- least one (C99 6.7.5.2, 6.7.5.3), where so many records are complete. What the rules of operators make of such types is such a type.
+-- Types of which each function gives a number, a pointer or nothing and takes numbers and pointers, and each array has at least one element, of a type that
+-- elements may have (C99 6.7.5.2, 6.7.5.3): a complete one, or whatever else is asked. What the rules of operators make of such types is such a type.
 use Rattle.std.proofs.Common.{◌≡◌, ℕ, ◌≤◌, Bool, true, false, refl, subst, cond, inl, inr}
 use Rattle.std.specs.Prelude.{Option, Some, None}
 use Rattle.std.specs.Option.{option_map}
@@ -19,22 +19,23 @@ use Rattle.c_well_typed.proofs.Fitting.{arithmetic_is, ordered_is}
 some_is : {A : Type 0} (x y : A) → Some x ≡ Some y → x ≡ y
 some_is x y h = cc
 
-module _ (count : ℕ) where
+-- `IsElement` is what is asked of the types of elements
+module _ (IsElement : CType → Type 0) where
   abbrev mutual
-    pub IsWellMade : CType → Type 0
-    IsWellMade void = Unit {0}
-    IsWellMade (integer kind) = Unit {0}
-    IsWellMade (pointer t) = IsWellMade t
-    IsWellMade (array t n) = (1 ≤ n) × (is_object count t ≡ true) × IsWellMade t
-    IsWellMade (function t all) = IsResult t × IsWellMade t × AreWellMade all
-    IsWellMade (structure r) = Unit {0}
+    pub IsMade : CType → Type 0
+    IsMade void = Unit {0}
+    IsMade (integer kind) = Unit {0}
+    IsMade (pointer t) = IsMade t
+    IsMade (array t n) = (1 ≤ n) × IsElement t × IsMade t
+    IsMade (function t all) = IsResult t × IsMade t × AreMade all
+    IsMade (structure r) = Unit {0}
 
-    pub AreWellMade : CTypes → Type 0
-    AreWellMade no_types = Unit {0}
-    AreWellMade (and_type t more) = (is_scalar t ≡ true) × IsWellMade t × AreWellMade more
+    pub AreMade : CTypes → Type 0
+    AreMade no_types = Unit {0}
+    AreMade (and_type t more) = (is_scalar t ≡ true) × IsMade t × AreMade more
 
   abbrev W : CType → Type 0
-  W = IsWellMade
+  W = IsMade
 
   -- ---- parts of types
 
@@ -119,3 +120,11 @@ module _ (count : ℕ) where
   library_made Putchar = (inl refl, tt, (refl, tt, tt))
   library_made Getchar = (inl refl, tt, tt)
   library_made Exit = (inr refl, tt, (refl, tt, tt))
+
+-- ---- types whose elements are complete, where so many records are
+
+abbrev pub IsWellMade : (count : ℕ) → CType → Type 0
+IsWellMade count = IsMade (λ t. is_object count t ≡ true)
+
+abbrev pub AreWellMade : (count : ℕ) → CTypes → Type 0
+AreWellMade count = AreMade (λ t. is_object count t ≡ true)

@@ -34,13 +34,14 @@ use Rattle.c_well_typed.specs.Laws.{UnitsHaveWholeElements}
 use Rattle.c_well_typed.specs.WellTyped.{of_unit, IsResult, HasWholeElements, HaveWholeElements}
 use Rattle.c_well_typed.proofs.CompleteLocals.{locals_complete}
 use Rattle.c_well_typed.proofs.Definitions.{in_function, IsDefinedFunction, function_known}
-use Rattle.c_well_typed.proofs.KnownTypes.{body_scope}
+use Rattle.c_well_typed.proofs.KnownTypes.{complete_known, body_scope}
 use Rattle.c_well_typed.proofs.Leaves.{InStatements}
 use Rattle.c_well_typed.proofs.MadeLeaves.{items_leaves}
 use Rattle.c_well_typed.proofs.MadeNames as MadeNames
 use Rattle.c_well_typed.proofs.MadeNodes.{HasWhole, AreWhole, made_whole, object_whole, scalar_whole}
 use Rattle.c_well_typed.proofs.MadeStatements.{statement_whole}
-use Rattle.c_well_typed.proofs.NamedTypes.{IsMadeEntity, IsMadeScope, joined}
+use Rattle.c_well_typed.proofs.NamedTypes.{IsMadeEntity, IsMadeScope}
+use Rattle.c_well_typed.proofs.NamesInScope.{joined}
 use Rattle.c_well_typed.proofs.Numbers.{IsAmong, IsNumbered, all_among, of_all}
 use Rattle.c_well_typed.proofs.RecognisedTypes.{statement_types}
 use Rattle.c_well_typed.proofs.SpokenFiles.{mention_whole, field_made}
@@ -133,16 +134,17 @@ module _ (bytes : List ℕ) (items : List Trees.Item) (f : FileScope) (tree : Is
       abbrev S : Typed.Statement Noted
       S = Typed.block (declared_by d.all) d.all
 
-      made_leaves : InStatements count d.all
+      made_leaves : InStatements (IsWellMade count) (IsWellMade count) (λ n. Unit {0}) d.all
       made_leaves =
           let t = subst (IsWellMade count) d.ty_is (function_made n g e) in
-          let i = body_scope f count less d.list d.types g.parameters d.bounds (g.parameters ++ g.locals) d.of_list t.2 in
-          items_leaves f count less visible_made d.items _ d.all i d.erased
+          let i = body_scope f (λ t. is_object count t ≡ true) d.list d.types g.parameters d.bounds (g.parameters ++ g.locals) d.of_list t.2 in
+          items_leaves (IsWellMade count) (IsWellMade count) (λ n. Unit {0}) (IsMadeScope f count less) (complete_known f count less visible_made) d.items _ d.all i
+          d.erased
 
       nodes_whole : AreWhole H (types_in_statement (recognised_statement S))
       nodes_whole =
           statement_types H tt S
-          (statement_whole (in_function f g) count declared_functions fields H (made_whole count) d.result
+          (statement_whole (in_function f g) (λ t. is_object count t ≡ true) declared_functions fields H (made_whole count) (λ n. Unit {0}) d.result
           (result_whole d.result d.scalars.0) (λ n t e at u p. scalar_whole count u) S false false (source_typed items f h beginnings g numbered d) made_leaves)
 
       body_whole : A (flat_map of_body (if_any g.body))

@@ -29,13 +29,14 @@ use Rattle.c_erasure.specs.Units.{recognised_statement, recognised_initializer, 
 use Rattle.c_erasure.specs.Units.{function_types, type_if_pointer, of_initializer, stored_in, unit_of}
 use Rattle.c_well_typed.proofs.Allocations.{bare_itself}
 use Rattle.c_well_typed.proofs.Definitions.{in_function, IsDefinedFunction, function_known}
-use Rattle.c_well_typed.proofs.KnownTypes.{body_scope}
+use Rattle.c_well_typed.proofs.KnownTypes.{complete_known, body_scope}
 use Rattle.c_well_typed.proofs.Leaves.{InInitializer, InStatements}
-use Rattle.c_well_typed.proofs.MadeLeaves.{leaves, items_leaves, initializer_leaves}
+use Rattle.c_well_typed.proofs.MadeLeaves.{Knows, leaves, items_leaves, initializer_leaves}
 use Rattle.c_well_typed.proofs.MadeNames as MadeNames
 use Rattle.c_well_typed.proofs.MadeNodes.{AreWhole, made, path_made}
 use Rattle.c_well_typed.proofs.MadeStatements.{HasParts, initializer_whole, statement_whole}
-use Rattle.c_well_typed.proofs.NamedTypes.{IsMadeEntity, IsMadeScope, joined}
+use Rattle.c_well_typed.proofs.NamedTypes.{IsMadeEntity, IsMadeScope}
+use Rattle.c_well_typed.proofs.NamesInScope.{joined}
 use Rattle.c_well_typed.proofs.Numbers.{IsAmong, IsNumbered, all_among, of_all}
 use Rattle.c_well_typed.proofs.Recognised.{typed_path}
 use Rattle.c_well_typed.proofs.RecognisedTypes.{statement_types, initializer_types}
@@ -109,6 +110,19 @@ module _ (bytes : List ℕ) (items : List Trees.Item) (f : FileScope) (tree : Is
       → IsMadeEntity f N L e
   V = visible_made bytes items f tree h beginnings
 
+  -- the elements of arrays are complete
+  abbrev E : CType → Type 0
+  E t = is_object N t ≡ true
+
+  abbrev anywhere : ℕ → Type 0
+  anywhere n = Unit {0}
+
+  abbrev In : Scope → Type 0
+  In s = IsMadeScope f N L s
+
+  K : Knows W W anywhere In
+  K = complete_known f N L V
+
   -- ---- functions, fields and parts
 
   function_made : (n : ℕ) (g : AFunction) → slice_get f.functions n ≡ Some g → W g.ty
@@ -147,12 +161,12 @@ module _ (bytes : List ℕ) (items : List Trees.Item) (f : FileScope) (tree : Is
 
       by_operand : (th : Thing) → Erases a (measured s) th → IsTypedThing s th → IsOfType th t → W t
       by_operand (an_object p) e k q =
-          let l = leaves f N L V a (measured s) (an_object p) i e in
-          subst W (path_same p ∙ q) (path_made d N own_functions own_fields p k l)
+          let l = leaves W W anywhere In K a (measured s) (an_object p) i e in
+          subst W (path_same p ∙ q) (path_made d E own_functions own_fields p k l)
       by_operand (a_value x) e k q =
-          let l = leaves f N L V a (measured s) (a_value x) i e in
+          let l = leaves W W anywhere In K a (measured s) (a_value x) i e in
           let b = bare_thing a (measured s) (a_value x) e in
-          let w = made d N own_functions own_fields x k l in
+          let w = made d E own_functions own_fields x k l in
           subst W (type_same x ∙ q) (subst (λ x. W (ty x)) (bare_itself (typed x) b) w)
       by_operand (a_function at g u) e k q = absurd q
       by_operand (a_function_at x) e k q = absurd q
@@ -191,24 +205,24 @@ module _ (bytes : List ℕ) (items : List Trees.Item) (f : FileScope) (tree : Is
   initial_made : (n : ℕ) (o : AnObject) (i : Typed.Initializer Noted) → slice_get f.objects n ≡ Some o → o.initial ≡ Some i → HasMade i
   initial_made n o i e q = by_kind (covered n o e)
     where
-      parts : HasParts (declared (at_file_scope f)) N functions_made fields W (λ t w. w) o.ty
+      parts : HasParts (declared (at_file_scope f)) E functions_made fields W (λ t w. w) o.ty
       parts at u p s = part_made o.ty u at p (object_made n o e)
 
-      typed_whole : (i : Typed.Initializer Noted) → IsTypedObject f o.ty i → InInitializer N i
+      typed_whole : (i : Typed.Initializer Noted) → IsTypedObject f o.ty i → InInitializer W W i
           → AreWhole W (types_in_initializer i)
       typed_whole (Typed.parts []) t l = tt
       typed_whole (Typed.parts (part ∷ all)) t l =
-          initializer_whole (declared (at_file_scope f)) N functions_made fields W (λ t w. w) o.ty (Typed.parts (part ∷ all)) parts t l
-      typed_whole (Typed.whole x) t l = initializer_whole (declared (at_file_scope f)) N functions_made fields W (λ t w. w) o.ty (Typed.whole x) parts t l
+          initializer_whole (declared (at_file_scope f)) E functions_made fields W (λ t w. w) o.ty (Typed.parts (part ∷ all)) parts t l
+      typed_whole (Typed.whole x) t l = initializer_whole (declared (at_file_scope f)) E functions_made fields W (λ t w. w) o.ty (Typed.whole x) parts t l
       typed_whole (Typed.whole_record p) t l =
-          initializer_whole (declared (at_file_scope f)) N functions_made fields W (λ t w. w) o.ty (Typed.whole_record p) parts t l
+          initializer_whole (declared (at_file_scope f)) E functions_made fields W (λ t w. w) o.ty (Typed.whole_record p) parts t l
 
       of_filled : IsFilled (walk bytes items f tree h beginnings 0 0) o.ty i → HasMade i
       of_filled (inl z) = subst HasMade (sym z) tt
       of_filled (inr x) =
           let full = x.full in
           initializer_types W tt i
-          (typed_whole i (h.initialized n o i e q) (initializer_leaves f N L V x.tree x.scope o.ty i full.made x.erased))
+          (typed_whole i (h.initialized n o i e q) (initializer_leaves W W anywhere In K x.tree x.scope o.ty i full.made x.erased))
 
       by_kind : IsCovered bytes items f tree h beginnings 0 0 n o → HasMade i
       by_kind (inl l) = subst HasMade (some_is _ i (sym (ap (λ (o : AnObject). o.initial) l.1) ∙ q)) tt
@@ -256,13 +270,13 @@ module _ (bytes : List ℕ) (items : List Trees.Item) (f : FileScope) (tree : Is
         (each_listed (map (λ (l : ALocal). l.ty) g.parameters) d.types d.parameters types_made.1) own_locals)
 
     local_parts : (k : ℕ) (t : CType) → slice_get (in_function f g).locals k ≡ Some t
-        → HasParts (in_function f g) N functions_made fields W (λ t w. w) t
+        → HasParts (in_function f g) E functions_made fields W (λ t w. w) t
     local_parts k t q at u p s = part_made t u at p (at_place W (map (λ (l : ALocal). l.ty) (g.parameters ++ g.locals)) locals_types k t q)
 
-    made_leaves : InStatements N d.all
+    made_leaves : InStatements W W anywhere d.all
     made_leaves =
-        let i = body_scope f N L d.list d.types g.parameters d.bounds (g.parameters ++ g.locals) d.of_list types_made.1 in
-        items_leaves f N L V d.items _ d.all i d.erased
+        let i = body_scope f E d.list d.types g.parameters d.bounds (g.parameters ++ g.locals) d.of_list types_made.1 in
+        items_leaves W W anywhere In K d.items _ d.all i d.erased
 
     numbered : AllByRecursion (IsNumbered (types f)) (function_types g)
     numbered = at_place (λ (g : AFunction). AllByRecursion (IsNumbered (types f)) (function_types g)) f.functions (functions_numbered items f h beginnings) n g e
@@ -270,7 +284,7 @@ module _ (bytes : List ℕ) (items : List Trees.Item) (f : FileScope) (tree : Is
     nodes_made : AreWhole W (types_in_statement (recognised_statement S))
     nodes_made =
         statement_types W tt S
-        (statement_whole (in_function f g) N functions_made fields W (λ t w. w) d.result types_made.0 local_parts S false false
+        (statement_whole (in_function f g) E functions_made fields W (λ t w. w) anywhere d.result types_made.0 local_parts S false false
         (source_typed items f h beginnings g numbered d) made_leaves)
 
   abbrev of_body : Typed.Statement Noted → List CType

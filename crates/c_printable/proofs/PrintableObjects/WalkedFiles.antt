@@ -3,6 +3,7 @@
 use Rattle.std.proofs.Common.{◌≡◌, ◌∙◌, ℕ, ◌+◌, Bool, true, false, refl, sym, ap, subst, List, [], ◌∷◌, ◌++◌, length, arith, append-nil, inl, inr}
 use Rattle.std.specs.Prelude.{Option, Some, None, slice_get}
 use Rattle.std.specs.List.{AllByRecursion}
+use Rattle.c_types.specs.Objects.{is_object}
 use Rattle.c_types.specs.Types.{CType, CTypes, function}
 use Rattle.c_ast.specs.declared.words.Spelling.{Spelling}
 use Rattle.c_ast.specs.Places.{first_declarator}
@@ -304,7 +305,7 @@ module _ (w : Walk) where
   pub body_full : (all : Option Trees.ParameterList) (types : CTypes) (own : List ALocal) (bounds : List Bound) (locals : List ALocal)
       → HasParameters all types own bounds → AreWellMade w.count types → IsFull w (in_body f bounds locals)
   body_full all types own bounds locals h m = record {
-    made = body_scope f w.count w.less all types own bounds locals h m;
+    made = body_scope f (λ t. is_object w.count t ≡ true) all types own bounds locals h m;
     purpose = refl;
     own = (parameters_own all types own bounds h, tt);
   }
