@@ -14,3 +14,11 @@ pub mod PlacedBreaches
 pub mod PlacedOutside
 pub mod PlacedTold
 pub mod PlacedMentions
+pub mod CoveredUnits
+pub mod CoveredTypes
+pub mod CoveredFiles
+pub mod CoveredBodies
+pub mod CoveredInitials
+pub mod CoveredSources
+pub mod CoveredBreaches
+pub mod CoveredPrograms

@@ -43,7 +43,7 @@ each_so : {A : Type 0} (Q R : A → Type 0) (all : List A) → ((x : A) → Q x 
 each_so Q R [] f h = tt
 each_so Q R (x ∷ all) f h = (f x h.0, each_so Q R all f h.1)
 
-each_place : {A : Type 0} (Q : A → Type 0) (all : List A) → ((n : ℕ) (x : A) → slice_get all n ≡ Some x → Q x) → AllByRecursion Q all
+pub each_place : {A : Type 0} (Q : A → Type 0) (all : List A) → ((n : ℕ) (x : A) → slice_get all n ≡ Some x → Q x) → AllByRecursion Q all
 each_place Q [] f = tt
 each_place Q (x ∷ all) f = (f 0 x refl, each_place Q all (λ n y e. f (suc n) y e))
 

@@ -1,3 +1,4 @@
 pub mod Placed
 pub mod Laws
 pub mod Verdicts
+pub mod Covered
