@@ -1,3 +1,4 @@
 mod First
 mod Held
 mod Kept
+mod Uncovered
