@@ -6,5 +6,7 @@ pub mod Pieces
 pub mod Accesses
 pub mod Performing
 pub mod Lifting
+pub mod Unwritten
+pub mod Standing
 pub mod Reaching
 pub mod Ending

@@ -63,11 +63,11 @@ module _ (input output : List ℕ) where
     executed_lift _ other = refl
 
 -- an instruction is a call of the environment, or it is executed
-data Kind (places : List Segment) (old new : State) (i : Inst) (moved : Moved) : Type 0 where
+pub data Kind (places : List Segment) (old new : State) (i : Inst) (moved : Moved) : Type 0 where
   Calling : i ≡ Ecall → moved ≡ M.Calls → new ≡ old → Kind places old new i moved
   Plain : (i ≡ Ecall → ⊥) → Executes old new (executed places old i) moved → Kind places old new i moved
 
-kind_of : (places : List Segment) (old new : State) (i : Inst) (moved : Moved) → Performs places old new i moved → Kind places old new i moved
+pub kind_of : (places : List Segment) (old new : State) (i : Inst) (moved : Moved) → Performs places old new i moved → Kind places old new i moved
 kind_of places old new Ecall moved h = Calling refl h.0 h.1
 kind_of places old new _ moved h = Plain (λ e. cc) h
 

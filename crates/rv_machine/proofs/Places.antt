@@ -308,6 +308,17 @@ module _ (old new : Memory) (flag a place : ℕ) (bytes : List ℕ) (kept : IsKe
           → b0 + 2 ^ 8 * b1 + 2 ^ 16 * b2 + 2 ^ 24 * b3 ≡ c0 + 2 ^ 8 * c1 + 2 ^ 16 * c2 + 2 ^ 24 * c3
       four b0 b1 b2 b3 c0 c1 c2 c3 e0 e1 e2 e3 = cc
 
+-- a shorter range is found where a longer one is
+pub narrower : (rows : List Row) (size flag a n m place : ℕ) → m ≤ n → IsFound rows size flag a n place → IsFound rows size flag a m place
+narrower rows size flag a n m place le found =
+    let e : m + (n - m) ≡ n = omega arith in
+    let all : are_mapped (segments_of rows) flag a (m + (n - m)) ≡ true = ap (are_mapped (segments_of rows) flag a) e ∙ found.mapped in
+    record {
+      within = let w = found.within in omega arith;
+      mapped = (and_parts _ _ (sym (mapped_split (segments_of rows) flag a m (n - m)) ∙ all)).0;
+      at = λ k lt. found.at k (omega arith);
+    }
+
 -- two halves of a word
 pub half_joined : (low high b0 b1 : ℕ) → low ≡ b0 → high ≡ b1 → low + 256 * high ≡ b0 + 2 ^ 8 * b1
 half_joined low high b0 b1 e f = omega arith

@@ -8,7 +8,7 @@ use Rattle.std.proofs.Math.ListN.{get_or-append, length-append}
 use Rattle.std.proofs.lemmas.Bool.{false_from_ne_true, cases_lt}
 use Rattle.std.proofs.lemmas.List.{get_or-append-add, get_or-append_right, get_or-replicate, get_or_past, length-replicate}
 use Rattle.std.proofs.lemmas.List.Concat.{flat_map-cons}
-use Rattle.std.proofs.lemmas.List.Elements.{All-nil, All-cons, All-head, All-tail}
+use Rattle.std.proofs.lemmas.List.Elements.{All-nil, All-cons, All-head, All-tail, All-replicate}
 use Rattle.std.proofs.lemmas.List.Sums.{sum_by-cons}
 use Rattle.rv_isa.specs.declared.image.Segment.{Segment}
 use Rattle.rv_isa.specs.Memory.{initial_memory}
@@ -76,13 +76,6 @@ each_serves start size (s ∷ segments) p le =
     (each_serves (start + s.size) size segments p.2 (omega (arith, size_cons s segments))))
 
 -- a row without address
-pub serves_nothing : (rows : List Row) (size : ℕ) → Serves rows size (record { at = 0; size = 0; start = 0; flags = 0 })
-serves_nothing rows size = record {
-  end = omega arith;
-  place = omega arith;
-  found = λ a h. let ends = held_between (record { at = 0; size = 0; start = 0; flags = 0 }) a h in absurd (omega (arith, ends.1));
-}
-
 pub begins_nothing : (rows : List Row) (size flag : ℕ) → Begins rows size flag (record { at = 0; size = 0; start = 0; flags = 0 })
 begins_nothing rows size flag = record {
   end = omega arith;
@@ -90,6 +83,9 @@ begins_nothing rows size flag = record {
   serves = λ some. absurd (omega arith);
   allowed = λ some. absurd (omega arith);
 }
+
+pub all_begin_nothing : (rows : List Row) (size flag : ℕ) → All (Begins rows size flag) (replicate 32 (record { at = 0; size = 0; start = 0; flags = 0 }))
+all_begin_nothing rows size flag = All-replicate (Begins rows size flag) 32 (record { at = 0; size = 0; start = 0; flags = 0 }) (begins_nothing rows size flag)
 
 -- ---- no two addresses have one place
 

@@ -66,6 +66,10 @@ word_stored old new flag a place v before after fits kept found same put =
     ∙ word_stored_here new.rows.items new.bytes.items flag a 4 place new.sound found v fits (omega arith)
     ∙ ap (λ (m : Content). with_word m a v) (kept_content old new kept)
 
+pub byte_put : (m : Memory) (flag a place v : ℕ) → IsFound m.rows.items (length m.bytes.items) flag a 1 place
+    → memory_of m.rows.items (slice_set m.bytes.items place (v % 256)) ≡ with_byte (content_of m) a v
+byte_put m flag a place v found = first_stored m.rows.items m.bytes.items flag a 1 place m.sound found (v % 256) v (omega arith) refl
+
 -- ---- byte by byte
 
 -- each byte of a range that is mapped

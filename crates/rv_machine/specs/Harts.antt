@@ -1,9 +1,10 @@
 -- A hart as contracts see it, and what an instruction does to it.
-use Rattle.std.specs.Prelude.{◌≡◌, ℕ, List, []}
+use Rattle.std.specs.Prelude.{◌≡◌, ℕ, List, [], false}
 use Rattle.rv_isa.specs.declared.image.Segment.{Segment}
 use Rattle.rv_isa.specs.declared.instruction.Inst.{Inst}
 use Rattle.rv_isa.specs.declared.instruction.Inst.TheVariants.{Ecall}
 use Rattle.rv_isa.specs.Encoding.{row}
+use Rattle.rv_isa.specs.Memory.{is_mapped, writable}
 use Rattle.rv_isa.specs.Step.{State, Stepped, Goes, Ends, Exits, Trap, Break, executed, next_pc}
 use Rattle.rv_machine.specs.declared.hart.Hart.{Hart}
 use Rattle.rv_machine.specs.declared.hart.Moved.{Moved}
@@ -17,6 +18,10 @@ places_of hart = segments_in hart.memory
 -- the state of the machine, with no input and no output
 abbrev pub state_of : Hart → State
 state_of hart = record { registers = hart.registers; pc = hart.pc; memory = content_of hart.memory; input = []; output = [] }
+
+-- where memory may not be written it is as it was
+abbrev pub LeavesUnwritten : (old new : Hart) → Type 0
+LeavesUnwritten old new = (a : ℕ) → is_mapped (places_of old) writable a ≡ false → content_of new.memory a ≡ content_of old.memory a
 
 -- nothing is done, and the next instruction follows
 abbrev pub passes : State → Stepped
@@ -37,6 +42,10 @@ Does old new i moved = Executes (state_of old) (state_of new) (executed (places_
 -- the opcode of an instruction's word
 abbrev pub HasOpcode : ℕ → Inst → Type 0
 HasOpcode opcode i = (row i).opcode ≡ opcode
+
+-- an instruction on two registers that is not of the extension M, by its word
+abbrev pub IsBasic : Inst → Type 0
+IsBasic i = ((row i).opcode ≡ 0x33) × ((row i).funct7 ≡ 1 → ⊥)
 
 -- an instruction of the extension M, by its word
 abbrev pub IsOfM : Inst → Type 0

@@ -21,13 +21,14 @@ impl Hart {
     ghost use Rattle.rv_isa.specs.Memory.{word_at};
     ghost use Rattle.rv_isa.specs.Step.{calls, read_call, write_call, IsAtCall};
     ghost use Rattle.rv_machine.specs.View.{content_of};
-    ghost use Rattle.rv_machine.specs.Harts.{places_of, state_of};
+    ghost use Rattle.rv_machine.specs.Harts.{LeavesUnwritten, places_of, state_of};
     ghost use Rattle.rv_machine.specs.Advances.{AdvanceGives, streams};
 
     /// Bytes of memory go to the output: as many as the third argument says, from the second on.
     fn write_bytes<I: Source, O: Sink>(&mut self, input: &I, out: &mut O) -> Advance
         requires { IsAtCall 64 (state_of self.old) }
         ensures places { places_of self.new ≡ places_of self.old }
+        ensures unwritten { LeavesUnwritten self.old self.new }
         ensures gives { AdvanceGives (write_call (places_of self.old)) (state_of self.old) (state_of self.new)
             (streams (I.left input.now) (I.faults input.now) (O.written out.old) (O.faults out.old))
             (streams (I.left input.now) (I.faults input.now) (O.written out.new) (O.faults out.new)) result }
@@ -52,6 +53,7 @@ impl Hart {
     fn read_bytes<I: Source, O: Sink>(&mut self, input: &mut I, out: &O) -> Advance
         requires { IsAtCall 63 (state_of self.old) }
         ensures places { places_of self.new ≡ places_of self.old }
+        ensures unwritten { LeavesUnwritten self.old self.new }
         ensures gives { AdvanceGives (read_call (places_of self.old)) (state_of self.old) (state_of self.new)
             (streams (I.left input.old) (I.faults input.old) (O.written out.now) (O.faults out.now))
             (streams (I.left input.new) (I.faults input.new) (O.written out.now) (O.faults out.now)) result }
@@ -76,6 +78,7 @@ impl Hart {
     pub(crate) fn call<I: Source, O: Sink>(&mut self, input: &mut I, out: &mut O) -> Advance
         requires { decoded (word_at (content_of self.old.memory) self.old.pc) ≡ Some Ecall }
         ensures places { places_of self.new ≡ places_of self.old }
+        ensures unwritten { LeavesUnwritten self.old self.new }
         ensures gives { AdvanceGives (calls (places_of self.old)) (state_of self.old) (state_of self.new)
             (streams (I.left input.old) (I.faults input.old) (O.written out.old) (O.faults out.old))
             (streams (I.left input.new) (I.faults input.new) (O.written out.new) (O.faults out.new)) result }

@@ -10,17 +10,17 @@ use rv_isa::Inst;
 impl Hart {
     ghost use Rattle.std.specs.Prelude.{◌≡◌};
     ghost use Rattle.rv_isa.specs.Encoding.{IsInRange};
-    ghost use Rattle.rv_machine.specs.Harts.{Does, HasOpcode, IsOfM, Performs, places_of, state_of};
+    ghost use Rattle.rv_machine.specs.Harts.{Does, HasOpcode, IsBasic, IsOfM, Performs, places_of, state_of};
 
     /// Executes an instruction, one arm for each here and in the functions below (RISC-V
     /// unprivileged specification, RV32I and M).
     #[inline(always)]
-    pub(crate) fn execute(&mut self, inst: Inst) -> Moved
-        requires { IsInRange inst }
+    pub(crate) fn execute(&mut self, inst: &Inst) -> Moved
+        requires { IsInRange inst.now }
         ensures places { places_of self.new ≡ places_of self.old }
-        ensures moved { Performs (places_of self.old) (state_of self.old) (state_of self.new) inst result }
+        ensures moved { Performs (places_of self.old) (state_of self.old) (state_of self.new) inst.now result }
     {
-        match inst {
+        match *inst {
             Inst::Lui { rd, imm } => self.write(rd, imm * 4096),
             Inst::Auipc { rd, imm } => self.write(rd, self.pc.wrapping_add(imm * 4096)),
             Inst::Jal { rd, imm } => self.jump(rd, plus(self.pc, imm)),
@@ -51,6 +51,14 @@ impl Hart {
             | Inst::Slli { .. }
             | Inst::Srli { .. }
             | Inst::Srai { .. } => self.compute_with_immediate(inst),
+            Inst::Mul { .. }
+            | Inst::Mulh { .. }
+            | Inst::Mulhsu { .. }
+            | Inst::Mulhu { .. }
+            | Inst::Div { .. }
+            | Inst::Divu { .. }
+            | Inst::Rem { .. }
+            | Inst::Remu { .. } => self.multiply_or_divide(inst),
             _ => self.compute(inst),
         }
     }
@@ -58,13 +66,13 @@ impl Hart {
     /// Executes an instruction that computes a word from a register and an immediate (RV32I, opcode
     /// OP-IMM).
     #[inline(always)]
-    fn compute_with_immediate(&mut self, inst: Inst) -> Moved
-        requires range { IsInRange inst }
-        requires opcode { HasOpcode 0x13 inst }
+    fn compute_with_immediate(&mut self, inst: &Inst) -> Moved
+        requires range { IsInRange inst.now }
+        requires opcode { HasOpcode 0x13 inst.now }
         ensures places { places_of self.new ≡ places_of self.old }
-        ensures moved { Does self.old self.new inst result }
+        ensures moved { Does self.old self.new inst.now result }
     {
-        match inst {
+        match *inst {
             Inst::Addi { rd, rs1, imm } => self.write(rd, plus(self.get(rs1), imm)),
             Inst::Slti { rd, rs1, imm } => self.write(
                 rd,
@@ -90,15 +98,15 @@ impl Hart {
         }
     }
 
-    /// Executes an instruction that computes a word from two registers (opcode OP).
+    /// Executes an instruction of RV32I that computes a word from two registers (opcode OP).
     #[inline(always)]
-    fn compute(&mut self, inst: Inst) -> Moved
-        requires range { IsInRange inst }
-        requires opcode { HasOpcode 0x33 inst }
+    fn compute(&mut self, inst: &Inst) -> Moved
+        requires range { IsInRange inst.now }
+        requires basic { IsBasic inst.now }
         ensures places { places_of self.new ≡ places_of self.old }
-        ensures moved { Does self.old self.new inst result }
+        ensures moved { Does self.old self.new inst.now result }
     {
-        match inst {
+        match *inst {
             Inst::Add { rd, rs1, rs2 } => self.write(rd, self.get(rs1).wrapping_add(self.get(rs2))),
             Inst::Sub { rd, rs1, rs2 } => self.write(rd, self.get(rs1).wrapping_sub(self.get(rs2))),
             Inst::Sll { rd, rs1, rs2 } => self.write(
@@ -121,19 +129,19 @@ impl Hart {
             ),
             Inst::Or { rd, rs1, rs2 } => self.write(rd, self.get(rs1) | self.get(rs2)),
             Inst::And { rd, rs1, rs2 } => self.write(rd, self.get(rs1) & self.get(rs2)),
-            _ => self.multiply_or_divide(inst),
+            _ => unreachable!(),
         }
     }
 
     /// Executes an instruction of the extension M.
     #[inline(always)]
-    fn multiply_or_divide(&mut self, inst: Inst) -> Moved
-        requires range { IsInRange inst }
-        requires extension { IsOfM inst }
+    fn multiply_or_divide(&mut self, inst: &Inst) -> Moved
+        requires range { IsInRange inst.now }
+        requires extension { IsOfM inst.now }
         ensures places { places_of self.new ≡ places_of self.old }
-        ensures moved { Does self.old self.new inst result }
+        ensures moved { Does self.old self.new inst.now result }
     {
-        match inst {
+        match *inst {
             Inst::Mul { rd, rs1, rs2 } => self.write(rd, self.get(rs1).wrapping_mul(self.get(rs2))),
             Inst::Mulh { rd, rs1, rs2 } => self.write(
                 rd,

@@ -24,9 +24,9 @@ pub enum Moved {
 /// Registers, program counter and memory.
 #[derive(Drop)]
 pub struct Hart {
+    pub(crate) memory: Memory,
     pub(crate) registers: [u32; 32],
     pub(crate) pc: u32,
-    pub(crate) memory: Memory,
 }
 
 impl Hart {
@@ -45,17 +45,18 @@ impl Hart {
         self.registers[r as usize]
     }
 
-    /// The register gets the value, and the next instruction follows.
+    /// The register gets the value, and the next instruction follows. The program counter is first, since
+    /// the compiler would read it again after a write to some register.
     #[inline(always)]
     pub(crate) fn write(&mut self, rd: u8, value: u32) -> Moved
         requires { rd < 32 }
         ensures places { places_of self.new ≡ places_of self.old }
         ensures moved { Executes (state_of self.old) (state_of self.new) (writes (state_of self.old) rd value) result }
     {
+        self.pc = self.pc.wrapping_add(4);
         if rd != 0 {
             self.registers[rd as usize] = value;
         }
-        self.pc = self.pc.wrapping_add(4);
         Moved::Goes
     }
 
@@ -79,10 +80,11 @@ impl Hart {
         if target % 4 != 0 {
             return Moved::Traps(TrapKind::Jump);
         }
-        if rd != 0 {
-            self.registers[rd as usize] = self.pc.wrapping_add(4);
-        }
+        let next = self.pc.wrapping_add(4);
         self.pc = target;
+        if rd != 0 {
+            self.registers[rd as usize] = next;
+        }
         Moved::Goes
     }
 
@@ -118,7 +120,7 @@ impl Hart {
         ensures moved { Does self.old self.new (I.Lb rd rs1 imm) result }
     {
         let address = self.address(rs1, imm);
-        match self.memory.load_byte(address) {
+        match self.memory.load_byte(rs1, address) {
             Some(byte) => self.write(rd, extended_byte(byte)),
             None => Moved::Traps(TrapKind::Unmapped),
         }
@@ -136,7 +138,7 @@ impl Hart {
         if address % 2 != 0 {
             return Moved::Traps(TrapKind::Misaligned);
         }
-        match self.memory.load_half(address) {
+        match self.memory.load_half(rs1, address) {
             Some(half) => self.write(rd, extended_half(half)),
             None => Moved::Traps(TrapKind::Unmapped),
         }
@@ -154,7 +156,7 @@ impl Hart {
         if address % 4 != 0 {
             return Moved::Traps(TrapKind::Misaligned);
         }
-        match self.memory.load_word(address) {
+        match self.memory.load_word(rs1, address) {
             Some(word) => self.write(rd, word),
             None => Moved::Traps(TrapKind::Unmapped),
         }
@@ -169,7 +171,7 @@ impl Hart {
         ensures moved { Does self.old self.new (I.Lbu rd rs1 imm) result }
     {
         let address = self.address(rs1, imm);
-        match self.memory.load_byte(address) {
+        match self.memory.load_byte(rs1, address) {
             Some(byte) => self.write(rd, byte as u32),
             None => Moved::Traps(TrapKind::Unmapped),
         }
@@ -187,7 +189,7 @@ impl Hart {
         if address % 2 != 0 {
             return Moved::Traps(TrapKind::Misaligned);
         }
-        match self.memory.load_half(address) {
+        match self.memory.load_half(rs1, address) {
             Some(half) => self.write(rd, half as u32),
             None => Moved::Traps(TrapKind::Unmapped),
         }
@@ -203,7 +205,7 @@ impl Hart {
     {
         let address = self.address(rs1, imm);
         let value = self.get(rs2);
-        if self.memory.store_byte(address, value) {
+        if self.memory.store_byte(rs1, address, value) {
             self.pc = self.pc.wrapping_add(4);
             Moved::Goes
         } else {
@@ -224,7 +226,7 @@ impl Hart {
             return Moved::Traps(TrapKind::Misaligned);
         }
         let value = self.get(rs2);
-        if self.memory.store_half(address, value) {
+        if self.memory.store_half(rs1, address, value) {
             self.pc = self.pc.wrapping_add(4);
             Moved::Goes
         } else {
@@ -245,7 +247,7 @@ impl Hart {
             return Moved::Traps(TrapKind::Misaligned);
         }
         let value = self.get(rs2);
-        if self.memory.store_word(address, value) {
+        if self.memory.store_word(rs1, address, value) {
             self.pc = self.pc.wrapping_add(4);
             Moved::Goes
         } else {

@@ -1,5 +1,7 @@
 //! The machine: a hart that runs, and how far it has come.
 
+ghost use Rattle.rv_machine.specs.Keeping.{AllStay};
+
 use crate::decoder::Decoder;
 use crate::hart::{Hart, Moved};
 use crate::memory::Memory;
@@ -44,10 +46,11 @@ pub enum Advance {
 /// A machine that runs a program once. It is as `new` made it, or it has run and keeps its end.
 #[derive(Drop)]
 pub struct Machine {
-    pub(crate) hart: Hart,
     pub(crate) decoder: Decoder,
     pub(crate) steps: u64,
     pub(crate) ended: Option<MachineEnd>,
+    pub(crate) hart: Hart,
+    ghost all_stay: { AllStay hart decoder },
 }
 
 impl Machine {
@@ -62,9 +65,16 @@ impl Machine {
     ghost use Rattle.rv_machine.specs.Advances.{AdvanceGives, streams};
     ghost use Rattle.rv_machine.specs.Runs.{IsFresh, RunGives, own_run, run_of, observed};
 
-    /// Whether the next instruction stands in the row of the last one and is kept.
+    /// Whether the next instruction is kept, and stays where it stands.
     #[inline(always)]
     fn is_ready(&self) -> bool
+        ensures { result ≡ true → IsReady self.now.hart self.now.decoder }
+    {
+        self.decoder.lasts(self.hart.pc)
+    }
+
+    /// Whether the next instruction stands in the row of the last one and is kept as it stands.
+    fn is_as_kept(&self) -> bool
         ensures { result ≡ true → IsReady self.now.hart self.now.decoder }
     {
         match self.hart.memory.code_word(self.hart.pc) {
@@ -83,12 +93,18 @@ impl Machine {
             (IsReady self.new.hart self.new.decoder)
             (λ kind. StepGives (places_of self.old.hart) (state_of self.old.hart) (state_of self.old.hart) (Traps kind)) }
     {
+        if self.is_as_kept() {
+            return None;
+        }
         match self.hart.memory.fetch(self.hart.pc) {
-            Some(word) => if self.decoder.keep(self.hart.pc, word) {
-                None
-            } else {
-                Some(TrapKind::Illegal)
-            },
+            Some(word) => {
+                let stays = self.hart.memory.stays(self.hart.pc);
+                if self.decoder.keep(self.hart.pc, word, stays) {
+                    None
+                } else {
+                    Some(TrapKind::Illegal)
+                }
+            }
             None => Some(TrapKind::Unmapped),
         }
     }
@@ -119,7 +135,7 @@ impl Machine {
         match self.prepare() {
             None => {
                 // Read where it is kept, whichever way it came there: `execute` has one caller, and so
-                // becomes a part of the loop over the steps.
+                // becomes a part of the loop over the steps, and reads the fields that it uses.
                 let inst = self.decoder.instruction(self.hart.pc);
                 self.hart.execute(inst)
             }
@@ -155,15 +171,20 @@ impl Machine {
         end
     }
 
-    /// At most so many steps.
+    /// At most so many steps. It is a function of its own, so that the loop has the processor's registers
+    /// to itself, whatever calls it.
+    #[inline(never)]
     fn go<I: Source, O: Sink>(&mut self, input: &mut I, out: &mut O, limit: u64) -> MachineEnd
         ensures { RunGives (own_run self.old.hart) limit
             (streams (I.left input.old) (I.faults input.old) (O.written out.old) (O.faults out.old))
             (streams (I.left input.new) (I.faults input.new) (O.written out.new) (O.faults out.new)) (observed self.new) result }
     {
-        for done in 0..limit {
+        // Counted down, which takes one instruction less for each step.
+        let mut left = limit;
+        while left > 0 {
+            let done = limit - left;
             match self.advance(input, out) {
-                Advance::Goes => {}
+                Advance::Goes => left -= 1,
                 Advance::Exits(status) => return self.stop(done + 1, MachineEnd::Exits(status)),
                 Advance::Traps(kind) => return self.stop(
                     done + 1,
@@ -186,14 +207,14 @@ impl Machine {
         let memory = Memory::of(alloc, image.segments.as_slice())?;
         let decoder = Decoder::new(alloc)?;
         Ok(Machine {
-            hart: Hart {
-                registers: [0; 32],
-                pc: image.entry,
-                memory,
-            },
             decoder,
             steps: 0,
             ended: None,
+            hart: Hart {
+                memory,
+                registers: [0; 32],
+                pc: image.entry,
+            },
         })
     }
 

@@ -82,7 +82,8 @@ impl Memory {
             rows,
             bytes,
             code: Row::NONE,
-            recent: Row::NONE,
+            loads: [Row::NONE; 32],
+            stores: [Row::NONE; 32],
         })
     }
 }

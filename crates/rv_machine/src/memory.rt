@@ -1,8 +1,8 @@
 //! The memory of the machine: all its segments' bytes, and the rows that say where they stand.
 
-ghost use Rattle.std.specs.Prelude.{◌≡◌, ◌+◌, ◌*◌, ◌≤◌, ◌^◌, length, slice_index};
-ghost use Rattle.rv_isa.specs.Memory.{executable};
-ghost use Rattle.rv_machine.specs.Rows.{AreSound, Begins, Serves, half_put, word_put};
+ghost use Rattle.std.specs.Prelude.{◌≡◌, ◌+◌, ◌*◌, ◌≤◌, ◌^◌, All, length, slice_index};
+ghost use Rattle.rv_isa.specs.Memory.{executable, readable, writable};
+ghost use Rattle.rv_machine.specs.Rows.{AreSound, Begins, half_put, word_put};
 
 use crate::rows::{Row, Stretch, row_with};
 
@@ -58,17 +58,20 @@ fn put_word(bytes: &mut [u8], place: usize, value: u32)
 pub struct Memory {
     pub(crate) rows: Vec<Row>,
     pub(crate) bytes: Vec<u8>,
-    // Where an instruction may begin, in the row where the last one was found, and the row in which the
-    // last other access was found; or rows that have no address.
+    // Where a word may begin: in the row where the last instruction was found, and for each register
+    // in those where the last load and the last store at an address of its were found; or rows that
+    // have no address.
     pub(crate) code: Row,
-    pub(crate) recent: Row,
+    pub(crate) loads: [Row; 32],
+    pub(crate) stores: [Row; 32],
     ghost sound: { AreSound rows.items (length bytes.items) },
     ghost code_begins: { Begins rows.items (length bytes.items) executable code },
-    ghost recent_serves: { Serves rows.items (length bytes.items) recent },
+    ghost loads_begin: { All (Begins rows.items (length bytes.items) readable) loads },
+    ghost stores_begin: { All (Begins rows.items (length bytes.items) writable) stores },
 }
 
 impl Memory {
-    ghost use Rattle.std.specs.Prelude.{◌≡◌, ◌+◌, ◌<◌, ◌≤◌, ◌^◌, false, true, length, IfSome, MatchOption, None, Some, if◌then◌else◌};
+    ghost use Rattle.std.specs.Prelude.{◌≡◌, ℕ, ◌+◌, ◌<◌, ◌≤◌, ◌^◌, false, true, length, IfSome, MatchOption, None, Some, if◌then◌else◌};
     ghost use Rattle.rv_isa.specs.Memory.{are_mapped, executable, half_at, is_mapped, readable, with_byte, with_half, with_word, word_at, writable};
     ghost use Rattle.rv_machine.specs.Rows.{IsFound, Serves, allows};
     ghost use Rattle.rv_machine.specs.View.{content_of, if_mapped, segments_in, IsKept};
@@ -85,24 +88,11 @@ impl Memory {
         }
     }
 
-    /// The place of bytes from an address on, where the row that was found last has them all, or
-    /// another row has.
-    #[inline(always)]
-    fn find(&mut self, flag: u8, address: u32, width: u32) -> Option<usize>
-        requires { 0 < width }
-        ensures kept { IsKept self.old self.new }
-        ensures found { IfSome result (λ place. IsFound self.new.rows.items (length self.new.bytes.items) flag address width place) }
-    {
-        match self.recent.place(flag, address, width) {
-            Some(place) => Some(place),
-            None => self.search(flag, address, width),
-        }
-    }
-
     /// The row that has all bytes from an address on, where there is one.
     fn covering(&self, flag: u8, address: u32, width: u32) -> Option<Row>
         requires { 0 < width }
-        ensures { IfSome result (λ row. Serves self.now.rows.items (length self.now.bytes.items) row × (allows row flag ≡ true)) }
+        ensures { IfSome result (λ row. Serves self.now.rows.items (length self.now.bytes.items) row × (allows row flag ≡ true)
+            × (row.at ≤ address) × (address + width ≤ row.at + row.size)) }
     {
         for row in &self.rows {
             if row.place(flag, address, width).is_some() {
@@ -112,17 +102,60 @@ impl Memory {
         None
     }
 
-    /// The same by a walk over all rows.
-    #[cold]
-    fn search(&mut self, flag: u8, address: u32, width: u32) -> Option<usize>
-        requires { 0 < width }
-        ensures kept { IsKept self.old self.new }
-        ensures found { IfSome result (λ place. IsFound self.new.rows.items (length self.new.bytes.items) flag address width place) }
+    /// The place of bytes that may be read, from an address of the register on, where the row that was
+    /// found for it last has them.
+    #[inline(always)]
+    fn find_to_load(&self, register: u8, address: u32, width: u32) -> Option<usize>
+        requires register { register < 32 }
+        requires word { width ≤ 4 }
+        ensures { IfSome result (λ place. IsFound self.now.rows.items (length self.now.bytes.items) readable address width place) }
     {
-        match self.covering(flag, address, width) {
+        match self.loads[register as usize].place_within(address) {
+            Some(place) => Some(place),
+            None => None,
+        }
+    }
+
+    /// The same where any row has them, which is found by a walk over all.
+    fn search_to_load(&mut self, register: u8, address: u32, width: u32) -> Option<usize>
+        requires register { register < 32 }
+        requires some { 0 < width }
+        ensures kept { IsKept self.old self.new }
+        ensures found { IfSome result (λ place. IsFound self.new.rows.items (length self.new.bytes.items) readable address width place) }
+    {
+        match self.covering(READ, address, width) {
             Some(row) => {
-                self.recent = row;
-                row.place(flag, address, width)
+                self.loads[register as usize] = row.beginnings();
+                row.place(READ, address, width)
+            }
+            None => None,
+        }
+    }
+
+    /// The place of bytes that may be written, likewise.
+    #[inline(always)]
+    fn find_to_store(&self, register: u8, address: u32, width: u32) -> Option<usize>
+        requires register { register < 32 }
+        requires word { width ≤ 4 }
+        ensures { IfSome result (λ place. IsFound self.now.rows.items (length self.now.bytes.items) writable address width place) }
+    {
+        match self.stores[register as usize].place_within(address) {
+            Some(place) => Some(place),
+            None => None,
+        }
+    }
+
+    /// The same where any row has them, which is found by a walk over all.
+    fn search_to_store(&mut self, register: u8, address: u32, width: u32) -> Option<usize>
+        requires register { register < 32 }
+        requires some { 0 < width }
+        ensures kept { IsKept self.old self.new }
+        ensures found { IfSome result (λ place. IsFound self.new.rows.items (length self.new.bytes.items) writable address width place) }
+    {
+        match self.covering(WRITE, address, width) {
+            Some(row) => {
+                self.stores[register as usize] = row.beginnings();
+                row.place(WRITE, address, width)
             }
             None => None,
         }
@@ -158,51 +191,96 @@ impl Memory {
         Some(low as u32 + 65536 * high as u32)
     }
 
-    // Loads take the answer of the slow way apart, so that the compiler keeps a value that is found the
-    // quick way in a register.
+    // What is not in the row that was found last is looked for apart, in one call, so that the quick way
+    // keeps its values in registers.
 
     /// The byte at an address; `None` exactly where it may not be read.
     #[inline(always)]
-    pub fn load_byte(&mut self, address: u32) -> Option<u8>
+    pub fn load_byte(&mut self, register: u8, address: u32) -> Option<u8>
+        requires { register < 32 }
         ensures kept { IsKept self.old self.new }
         ensures value { result ≡ if_mapped self.old readable address 1 (content_of self.old address) }
     {
-        match self.find(READ, address, 1) {
+        match self.find_to_load(register, address, 1) {
             Some(place) => Some(self.bytes[place]),
-            None => match self.byte_apart(READ, address as u64) {
+            None => match self.load_byte_elsewhere(register, address) {
                 Some(byte) => Some(byte),
                 None => None,
             },
         }
     }
 
+    /// The same from any row, or each byte from another.
+    #[cold]
+    #[inline(never)]
+    fn load_byte_elsewhere(&mut self, register: u8, address: u32) -> Option<u8>
+        requires { register < 32 }
+        ensures kept { IsKept self.old self.new }
+        ensures value { result ≡ if_mapped self.old readable address 1 (content_of self.old address) }
+    {
+        match self.search_to_load(register, address, 1) {
+            Some(place) => Some(self.bytes[place]),
+            None => self.byte_apart(READ, address as u64),
+        }
+    }
+
     /// The half word at an address; `None` exactly where one of its bytes may not be read.
     #[inline(always)]
-    pub fn load_half(&mut self, address: u32) -> Option<u16>
+    pub fn load_half(&mut self, register: u8, address: u32) -> Option<u16>
+        requires { register < 32 }
         ensures kept { IsKept self.old self.new }
         ensures value { result ≡ if_mapped self.old readable address 2 (half_at (content_of self.old) address) }
     {
-        match self.find(READ, address, 2) {
+        match self.find_to_load(register, address, 2) {
             Some(place) => Some(half_from(&self.bytes, place)),
-            None => match self.half_apart(READ, address as u64) {
+            None => match self.load_half_elsewhere(register, address) {
                 Some(half) => Some(half),
                 None => None,
             },
         }
     }
 
+    /// The same from any row, or each byte from another.
+    #[cold]
+    #[inline(never)]
+    fn load_half_elsewhere(&mut self, register: u8, address: u32) -> Option<u16>
+        requires { register < 32 }
+        ensures kept { IsKept self.old self.new }
+        ensures value { result ≡ if_mapped self.old readable address 2 (half_at (content_of self.old) address) }
+    {
+        match self.search_to_load(register, address, 2) {
+            Some(place) => Some(half_from(&self.bytes, place)),
+            None => self.half_apart(READ, address as u64),
+        }
+    }
+
     /// The word at an address; `None` exactly where one of its bytes may not be read.
     #[inline(always)]
-    pub fn load_word(&mut self, address: u32) -> Option<u32>
+    pub fn load_word(&mut self, register: u8, address: u32) -> Option<u32>
+        requires { register < 32 }
         ensures kept { IsKept self.old self.new }
         ensures value { result ≡ if_mapped self.old readable address 4 (word_at (content_of self.old) address) }
     {
-        match self.find(READ, address, 4) {
+        match self.find_to_load(register, address, 4) {
             Some(place) => Some(word_from(&self.bytes, place)),
-            None => match self.word_apart(READ, address as u64) {
+            None => match self.load_word_elsewhere(register, address) {
                 Some(word) => Some(word),
                 None => None,
             },
+        }
+    }
+
+    /// The same from any row, or each byte from another.
+    #[cold]
+    #[inline(never)]
+    fn load_word_elsewhere(&mut self, register: u8, address: u32) -> Option<u32>
+        requires { register < 32 }
+        ensures kept { IsKept self.old self.new }
+        ensures value { result ≡ if_mapped self.old readable address 4 (word_at (content_of self.old) address) }
+    {
+        match self.search_to_load(register, address, 4) {
+            Some(place) => Some(word_from(&self.bytes, place)),
+            None => self.word_apart(READ, address as u64),
         }
     }
 
@@ -290,12 +368,31 @@ impl Memory {
 
     /// Stores the low byte of a value; `false`, and nothing is stored, exactly where it may not be.
     #[inline(always)]
-    pub fn store_byte(&mut self, address: u32, value: u32) -> bool
+    pub fn store_byte(&mut self, register: u8, address: u32, value: u32) -> bool
+        requires { register < 32 }
         ensures rows { self.new.rows ≡ self.old.rows }
         ensures mapped { result ≡ are_mapped (segments_in self.old) writable address 1 }
         ensures content { content_of self.new ≡ (if result then with_byte (content_of self.old) address value else content_of self.old) }
     {
-        match self.find(WRITE, address, 1) {
+        match self.find_to_store(register, address, 1) {
+            Some(place) => {
+                self.bytes[place] = (value % 256) as u8;
+                true
+            }
+            None => self.store_byte_elsewhere(register, address, value),
+        }
+    }
+
+    /// The same into any row, or each byte into another.
+    #[cold]
+    #[inline(never)]
+    fn store_byte_elsewhere(&mut self, register: u8, address: u32, value: u32) -> bool
+        requires { register < 32 }
+        ensures rows { self.new.rows ≡ self.old.rows }
+        ensures mapped { result ≡ are_mapped (segments_in self.old) writable address 1 }
+        ensures content { content_of self.new ≡ (if result then with_byte (content_of self.old) address value else content_of self.old) }
+    {
+        match self.search_to_store(register, address, 1) {
             Some(place) => {
                 self.bytes[place] = (value % 256) as u8;
                 true
@@ -307,12 +404,31 @@ impl Memory {
     /// Stores the low half word of a value; `false`, and nothing is stored, exactly where one of its
     /// bytes may not be.
     #[inline(always)]
-    pub fn store_half(&mut self, address: u32, value: u32) -> bool
+    pub fn store_half(&mut self, register: u8, address: u32, value: u32) -> bool
+        requires { register < 32 }
         ensures rows { self.new.rows ≡ self.old.rows }
         ensures mapped { result ≡ are_mapped (segments_in self.old) writable address 2 }
         ensures content { content_of self.new ≡ (if result then with_half (content_of self.old) address value else content_of self.old) }
     {
-        match self.find(WRITE, address, 2) {
+        match self.find_to_store(register, address, 2) {
+            Some(place) => {
+                put_half(&mut self.bytes, place, value);
+                true
+            }
+            None => self.store_half_elsewhere(register, address, value),
+        }
+    }
+
+    /// The same into any row, or each byte into another.
+    #[cold]
+    #[inline(never)]
+    fn store_half_elsewhere(&mut self, register: u8, address: u32, value: u32) -> bool
+        requires { register < 32 }
+        ensures rows { self.new.rows ≡ self.old.rows }
+        ensures mapped { result ≡ are_mapped (segments_in self.old) writable address 2 }
+        ensures content { content_of self.new ≡ (if result then with_half (content_of self.old) address value else content_of self.old) }
+    {
+        match self.search_to_store(register, address, 2) {
             Some(place) => {
                 put_half(&mut self.bytes, place, value);
                 true
@@ -323,12 +439,31 @@ impl Memory {
 
     /// Stores a word; `false`, and nothing is stored, exactly where one of its bytes may not be.
     #[inline(always)]
-    pub fn store_word(&mut self, address: u32, value: u32) -> bool
+    pub fn store_word(&mut self, register: u8, address: u32, value: u32) -> bool
+        requires { register < 32 }
         ensures rows { self.new.rows ≡ self.old.rows }
         ensures mapped { result ≡ are_mapped (segments_in self.old) writable address 4 }
         ensures content { content_of self.new ≡ (if result then with_word (content_of self.old) address value else content_of self.old) }
     {
-        match self.find(WRITE, address, 4) {
+        match self.find_to_store(register, address, 4) {
+            Some(place) => {
+                put_word(&mut self.bytes, place, value);
+                true
+            }
+            None => self.store_word_elsewhere(register, address, value),
+        }
+    }
+
+    /// The same into any row, or each byte into another.
+    #[cold]
+    #[inline(never)]
+    fn store_word_elsewhere(&mut self, register: u8, address: u32, value: u32) -> bool
+        requires { register < 32 }
+        ensures rows { self.new.rows ≡ self.old.rows }
+        ensures mapped { result ≡ are_mapped (segments_in self.old) writable address 4 }
+        ensures content { content_of self.new ≡ (if result then with_word (content_of self.old) address value else content_of self.old) }
+    {
+        match self.search_to_store(register, address, 4) {
             Some(place) => {
                 put_word(&mut self.bytes, place, value);
                 true
@@ -358,5 +493,16 @@ impl Memory {
             self.code = row.beginnings();
         }
         self.word_apart(EXECUTE, pc as u64)
+    }
+
+    /// Whether the word of an instruction at an address stays, since all of it stands in a row that may
+    /// not be written.
+    pub fn stays(&self, pc: u32) -> bool
+        ensures { result ≡ true → (k : ℕ) → k < 4 → is_mapped (segments_in self.now) writable (pc + k) ≡ false }
+    {
+        match self.covering(EXECUTE, pc, 4) {
+            Some(row) => !row.allows(WRITE),
+            None => false,
+        }
     }
 }

@@ -1,7 +1,7 @@
-use Rattle.std.proofs.Common.{refl, arith}
-use Rattle.rv_isa.specs.Decoding.{decoded}
+use Rattle.rv_machine.proofs.Standing.{none_stay}
 use Rattle.rv_machine.proofs.decoder.Decoder.new.Goals as goal
 
-pub invariant_of-nothing : goal.invariant_of-nothing
-unfolding decoded
-invariant_of-nothing c = record { read = refl; fits = omega arith }
+pub returns : goal.returns
+returns c =
+    none_stay c.in-Ok.entries.items c.nothing_at.result c.nothing_at-2.result
+    (c.in-Ok.ensures.items_if_clones_equal (λ y same. same)) c.nothing_at.ensures c.nothing_at-2.ensures

@@ -1,8 +1,9 @@
 use Rattle.std.proofs.Common.{◌≡◌, refl, rules}
 use Rattle.rv_isa.specs.declared.instruction.Inst.TheVariants.{Lui, Auipc, Jal, Jalr, Beq, Bne, Blt, Bge, Bltu, Bgeu, Lb, Lh, Lw, Lbu, Lhu, Sb, Sh}
-use Rattle.rv_isa.specs.declared.instruction.Inst.TheVariants.{Sw, Addi, Slti, Sltiu, Xori, Ori, Andi, Slli, Srli, Srai, Fence, Ecall, Ebreak}
+use Rattle.rv_isa.specs.declared.instruction.Inst.TheVariants.{Sw, Addi, Slti, Sltiu, Xori, Ori, Andi, Slli, Srli, Srai, Mul, Mulh, Mulhsu, Mulhu, Div, Divu}
+use Rattle.rv_isa.specs.declared.instruction.Inst.TheVariants.{Rem, Remu, Fence, Ecall, Ebreak}
 use Rattle.rv_isa.specs.Step.{executed}
-use Rattle.rv_machine.specs.Harts.{Executes, HasOpcode, places_of, state_of}
+use Rattle.rv_machine.specs.Harts.{Executes, IsBasic, places_of, state_of}
 use Rattle.rv_machine.proofs.Performing.{performs}
 use Rattle.rv_machine.proofs.hart.Hart.execute.Goals as goal
 
@@ -21,10 +22,10 @@ returns-in-Sw-clause-moved c =
     rw c.in-Sw.is moved
 
 -- what no arm above takes has two registers
-pub compute-requires-clause-opcode : goal.compute-requires-clause-opcode
-compute-requires-clause-opcode c =
+pub compute-requires-clause-basic : goal.compute-requires-clause-basic
+compute-requires-clause-basic c =
     let other = c.in_default in
-    elim c.args.inst as (λ i. c.args.inst ≡ i → HasOpcode 0x33 i) [
+    elim c.args.inst.now as (λ i. c.args.inst.now ≡ i → IsBasic i) [
       | Lui rd imm ↦ λ e. absurd (other.not-Lui rd imm e)
       | Auipc rd imm ↦ λ e. absurd (other.not-Auipc rd imm e)
       | Jal rd imm ↦ λ e. absurd (other.not-Jal rd imm e)
@@ -52,13 +53,21 @@ compute-requires-clause-opcode c =
       | Slli rd rs1 imm ↦ λ e. absurd (other.not-Slli rd rs1 imm e)
       | Srli rd rs1 imm ↦ λ e. absurd (other.not-Srli rd rs1 imm e)
       | Srai rd rs1 imm ↦ λ e. absurd (other.not-Srai rd rs1 imm e)
+      | Mul rd rs1 rs2 ↦ λ e. absurd (other.not-Mul rd rs1 rs2 e)
+      | Mulh rd rs1 rs2 ↦ λ e. absurd (other.not-Mulh rd rs1 rs2 e)
+      | Mulhsu rd rs1 rs2 ↦ λ e. absurd (other.not-Mulhsu rd rs1 rs2 e)
+      | Mulhu rd rs1 rs2 ↦ λ e. absurd (other.not-Mulhu rd rs1 rs2 e)
+      | Div rd rs1 rs2 ↦ λ e. absurd (other.not-Div rd rs1 rs2 e)
+      | Divu rd rs1 rs2 ↦ λ e. absurd (other.not-Divu rd rs1 rs2 e)
+      | Rem rd rs1 rs2 ↦ λ e. absurd (other.not-Rem rd rs1 rs2 e)
+      | Remu rd rs1 rs2 ↦ λ e. absurd (other.not-Remu rd rs1 rs2 e)
       | Fence rd rs1 imm ↦ λ e. absurd (other.not-Fence rd rs1 imm e)
       | Ecall ↦ λ e. absurd (other.not-Ecall e)
       | Ebreak ↦ λ e. absurd (other.not-Ebreak e)
-      | _ ↦ λ e. refl
+      | _ ↦ λ e. (refl, λ f. absurd cc)
     ] refl
 
 pub returns-in_default-clause-moved : goal.returns-in_default-clause-moved
 returns-in_default-clause-moved c =
-    performs (places_of c.args.self.now) (state_of c.args.self.now) (state_of c.compute.new.self) c.args.inst c.compute.result c.in_default.not-Ecall
+    performs (places_of c.args.self.now) (state_of c.args.self.now) (state_of c.compute.new.self) c.args.inst.now c.compute.result c.in_default.not-Ecall
     c.compute.ensures.moved

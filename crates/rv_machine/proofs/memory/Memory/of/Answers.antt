@@ -1,7 +1,8 @@
 use Rattle.std.proofs.Common.{◌≡◌, ◌∙◌, ap, length}
+use Rattle.rv_isa.specs.Memory.{readable, writable}
 use Rattle.rv_machine.specs.Making.{size_of}
 use Rattle.rv_machine.specs.Rows.{segments_of}
-use Rattle.rv_machine.proofs.Segments.{fits_each, bytes_length, rows_are_sound, serves_nothing, begins_nothing, segments_are, content_is}
+use Rattle.rv_machine.proofs.Segments.{fits_each, bytes_length, rows_are_sound, begins_nothing, all_begin_nothing, segments_are, content_is}
 use Rattle.rv_machine.proofs.memory.Memory.of.Goals as goal
 
 pub bytes_for-requires : goal.bytes_for-requires
@@ -14,7 +15,8 @@ invariant_of-result c =
     record {
       sound = rw c.in_ok-rows.ensures (rows_are_sound segments (length c.in_ok-bytes.bytes.items) c.requires number);
       code_begins = begins_nothing _ _ _;
-      recent_serves = serves_nothing _ _;
+      loads_begin = all_begin_nothing c.in_ok-rows.rows.items (length c.in_ok-bytes.bytes.items) readable;
+      stores_begin = all_begin_nothing c.in_ok-rows.rows.items (length c.in_ok-bytes.bytes.items) writable;
     }
 
 pub returns-clause-segments : goal.returns-clause-segments
