@@ -1,4 +1,3 @@
 pub mod Counting
 pub mod Tagging
 pub mod Structs
-pub mod StructTokens

@@ -1,25 +1,43 @@
 //! The tags of structures that have none.
 
-ghost use Rattle.std.specs.Prelude.{◌≡◌, ◌≤◌, ◌+◌, ℕ, List, nat_eq, ◌∷◌, All, IfOk, OnOk, length, if◌then◌else◌};
+ghost use Rattle.std.specs.Prelude.{◌≡◌, ◌≤◌, ◌+◌, ◌++◌, ℕ, List, nat_eq, ◌∷◌, All, IfOk, OnOk, length, if◌then◌else◌};
+ghost use Rattle.c_tokens.specs.Lexes.{Lexes};
 ghost use Rattle.c_tokens.specs.TokenPlaces.{IsPlaceIn};
-ghost use Rattle.c_ast.specs.Spelling.{spell};
-ghost use Rattle.c_ast.specs.TreesOfFiles.{IsTreeOf};
-ghost use Rattle.c_ast.specs.Views.{items_of};
 ghost use Rattle.c_erasure.specs.Files.{AreAscending};
-ghost use Rattle.c_erasure.specs.Untagged.{AreTags, Line, name_in, structs_in, tag_text};
+ghost use Rattle.c_erasure.specs.Untagged.{AreTags, Line, name_in, place_of_struct, tag_text};
 ghost use Rattle.indexmap.specs.IndexMap.{insert_entry};
 ghost use Rattle.c_scopes.specs.SyntaxTags.Untagged.{untagged_by};
-ghost use Rattle.c_file_tags.specs.UntaggedStructs.Untagged.{counted_at, is_line};
+ghost use Rattle.c_file_tags.specs.UntaggedStructs.Untagged.{counted_at, is_line, structs_of};
 
-use crate::struct_places::places_of_structs;
-use c_ast::Tree;
 use c_lexer::{PresumedLines, tokens_have_places, tokens_have_texts};
 use c_scopes::Untagged;
-use c_tokens::Presumed;
+use c_tokens::{Presumed, Token, TokenKind};
 use indexmap::IndexMap;
 use itoa::Buffer;
-use lay_base::{File, Name, NoMemory};
+use lay_base::{File, Keyword, Name, NoMemory};
 use std::alloc::{AllocError, Global};
+
+fn add_place(places: &mut Vec<u32>, token: Token) -> Result<(), NoMemory>
+    ensures { OnOk result (places.new.items ≡ places.old.items ++ place_of_struct token.kind token.from) }
+{
+    if let TokenKind::Keyword(Keyword::Struct) = token.kind {
+        if places.push(token.from).is_err() {
+            return Err(NoMemory);
+        }
+    }
+    Ok(())
+}
+
+/// Where the keyword `struct` stands.
+fn places_of_structs(alloc: Global, tokens: &[Token]) -> Result<Vec<u32>, NoMemory>
+    ensures { IfOk result (λ places. places.items ≡ structs_of tokens.now) }
+{
+    let mut places = Vec::new(alloc);
+    for token in tokens {
+        add_place(&mut places, *token)?;
+    }
+    Ok(places)
+}
 
 /// The name that is presumed of a place: the file's own where no marker gives one.
 #[tactic(auto, using(std::proofs::lemmas::List::take_min, std::proofs::lemmas::List::drop_min))]
@@ -110,15 +128,15 @@ fn untagged_at(alloc: Global, file: &File, places: &[u32]) -> Result<Untagged, N
     Ok(untagged)
 }
 
-/// The tags of the structures of a file, whose tree is known.
-pub fn untagged_of(alloc: Global, tree: &Tree, file: &File) -> Result<Untagged, NoMemory>
+/// The tags of the structures of a file with these tokens.
+pub fn untagged_of(alloc: Global, tokens: &[Token], file: &File) -> Result<Untagged, NoMemory>
     requires short { length file.now.bytes ≤ 4194304 }
-    requires tree { IsTreeOf file.now.bytes (items_of tree.now) }
-    ensures are { IfOk result (λ untagged. AreTags file.now.name file.now.bytes (structs_in (spell (items_of tree.now))) (untagged_by untagged)) }
+    requires tokens { Lexes file.now.bytes tokens.now }
+    ensures are { IfOk result (λ untagged. AreTags file.now.name file.now.bytes (structs_of tokens.now) (untagged_by untagged)) }
     ensures begin { IfOk result (λ untagged. (at : ℕ) → (rest : List ℕ) × (untagged_by untagged at ≡ 64 ∷ rest)) }
 {
     tokens_have_texts();
     tokens_have_places();
-    let places = places_of_structs(alloc, tree.items.as_slice())?;
+    let places = places_of_structs(alloc, tokens)?;
     untagged_at(alloc, file, &places)
 }

@@ -4,7 +4,6 @@ ghost use Rattle.std.specs.Prelude.{◌≡◌, ◌≤◌, ℕ, ◌∷◌, ◌++�
 ghost use Rattle.c_lexer.specs.Answers.{LexGives};
 ghost use Rattle.c_tokens.specs.Lexes.{Lexes};
 ghost use Rattle.c_link.specs.Counting.{IsCountable};
-ghost use Rattle.c_parser.specs.Parsing.{ParseGives};
 ghost use Rattle.c_typed.specs.Programs.{unit_data};
 ghost use Rattle.lay_compile.specs.declared.stages.Reached.TheVariants as R;
 ghost use Rattle.lay_compile.specs.Front.{FrontGives};
@@ -12,7 +11,6 @@ ghost use Rattle.lay_compile.specs.Reaching.{ProgramGives, ReachedGives, StagesG
 ghost use Rattle.lay_base.specs.declared.place.File.{File as DeclaredFile};
 
 use crate::fault::CompileFault;
-use c_ast::Tree;
 use c_check::{CheckFault, check};
 use c_checking_units::units_are_one;
 use c_lexer::{lex, texts_have_one_reading};
@@ -33,15 +31,6 @@ pub enum Reached {
     Trees(CheckFault),
     /// Each has tokens, and this is the fault of the first that has no tree.
     Tokens(ParseFault),
-}
-
-/// The tree of some tokens, which are let go.
-fn tree_of(alloc: Global, tokens: Tokens) -> Result<Tree, ParseFault>
-    requires short { length tokens.bytes ≤ 4194304 }
-    requires tokens { Lexes tokens.bytes tokens.list }
-    ensures { ParseGives tokens result }
-{
-    parse(alloc, &tokens)
 }
 
 /// The units with one more.
@@ -65,13 +54,13 @@ fn with_unit(
     requires tokens { LexGives file.now.bytes number (Ok tokens) }
     ensures { StepGives number file.now (R.Units units) result }
 {
-    let tree = match tree_of(alloc, tokens) {
+    let tree = match parse(alloc, &tokens) {
         Ok(tree) => tree,
         Err(fault) => return Ok(Reached::Tokens(fault)),
     };
     trees_are_small();
     units_are_countable();
-    match check(alloc, number, file, tree) {
+    match check(alloc, number, file, tokens, tree) {
         Ok(unit) => Ok(Reached::Units(with_one_more(units, unit)?)),
         Err(fault) => Ok(Reached::Trees(fault)),
     }
@@ -83,7 +72,7 @@ fn with_tree(alloc: Global, tokens: Tokens, fault: CheckFault) -> Reached
     requires tokens { Lexes tokens.bytes tokens.list }
     ensures { (number : ℕ) (file : DeclaredFile) → LexGives file.bytes number (Ok tokens) → StepGives number file (R.Trees fault) (Ok result) }
 {
-    match tree_of(alloc, tokens) {
+    match parse(alloc, &tokens) {
         Ok(_) => Reached::Trees(fault),
         Err(fault) => Reached::Tokens(fault),
     }

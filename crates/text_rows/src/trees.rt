@@ -79,10 +79,12 @@ fn put_items(out: &mut Writer, items: &[Item])
 
 fn put_tags_of(out: &mut Writer, alloc: Global, file: &File, tokens: &Tokens, tree: &Tree)
     requires short { length file.now.bytes ≤ 4194304 }
+    requires tokens { Lexes file.now.bytes tokens.now.list }
     requires tree { IsTreeOf file.now.bytes (items_of tree.now) }
 {
-    match tags_of(alloc, tree, file) {
-        Ok(tags) => put_tags(out, &tags, file.bytes.as_slice(), tokens.list.as_slice()),
+    let list = tokens.list.as_slice();
+    match tags_of(alloc, list, tree, file) {
+        Ok(tags) => put_tags(out, &tags, file.bytes.as_slice(), list),
         Err(_) => out.word("out of memory"),
     }
 }
@@ -97,6 +99,7 @@ fn put_asked(
     tree: &Tree,
 )
     requires short { length file.now.bytes ≤ 4194304 }
+    requires tokens { Lexes file.now.bytes tokens.now.list }
     requires tree { IsTreeOf file.now.bytes (items_of tree.now) }
 {
     trees_are_small();

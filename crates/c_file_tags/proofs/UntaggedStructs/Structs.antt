@@ -10,6 +10,7 @@ use Rattle.c_tokens.specs.declared.token.TokenKind.TheVariants as K
 use Rattle.c_tokens.specs.Lexes.{Lexes}
 use Rattle.c_tokens.specs.TokenTexts.{token_text, IsTextOf, HaveTexts, TokensHaveTexts}
 use Rattle.c_tokens.specs.TokenPlaces.{IsPlaceIn, AreInOrder, TokensHavePlaces}
+use Rattle.c_lexer.specs.Readings.{HaveOneReading}
 use Rattle.c_ast.specs.Trees
 use Rattle.c_ast.specs.Spelling.{spell}
 use Rattle.c_ast.specs.Lexemes.{lexemes_of}
@@ -73,6 +74,7 @@ of_lexemes : (bytes : List ℕ) (tokens : List Token) → structs_in (lexemes_of
 of_lexemes bytes [] = refl
 of_lexemes bytes (token ∷ tokens) = ap (λ more. place_of_struct token.kind token.from ++ more) (of_lexemes bytes tokens)
 
--- the tokens of a tree's bytes
-pub structs_of_tree : (bytes : List ℕ) (items : List Trees.Item) (t : IsTreeOf bytes items) → structs_of t.0 ≡ structs_in (spell items)
-structs_of_tree bytes items t = sym (of_lexemes bytes t.0) ∙ ap structs_in t.3.spelled
+pub structs_of_tree : HaveOneReading → (bytes : List ℕ) (tokens : List Token) (items : List Trees.Item) → Lexes bytes tokens → IsTreeOf bytes items
+    → structs_of tokens ≡ structs_in (spell items)
+structs_of_tree one bytes tokens items l t =
+    ap structs_of (one.one_list bytes t.0 tokens t.1 l) ∙ (sym (of_lexemes bytes t.0) ∙ ap structs_in t.3.spelled)

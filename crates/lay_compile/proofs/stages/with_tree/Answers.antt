@@ -7,5 +7,5 @@ returns-in-Ok c number file l before e h =
     let items = items_of c.in-Ok.field-0 in
     still_no_unit number file items (tree_in_file number file c.args.tokens l items c.in-Ok.ensures.1) c.args.fault before e h
 
-pub returns-in-Err : goal.returns-in-Err
-returns-in-Err c number file l before e h = no_tree number file c.args.tokens l c.in-Err.fault c.in-Err.ensures before e h.before
+pub returns : goal.returns
+returns c number file l before e h = no_tree number file c.args.tokens l c.in-Err.fault c.in-Err.ensures before e h.before
