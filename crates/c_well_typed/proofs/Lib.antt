@@ -42,6 +42,9 @@ pub mod Limits
 pub mod StatementLoops
 pub mod FileLoops
 pub mod ProgramLoops
+pub mod NamesOfTrees
+pub mod FileFunctions
+pub mod ProgramFunctions
 pub mod CountableUnits
 pub mod Moved
 pub mod WellMade

@@ -1,11 +1,12 @@
 -- A program of files passes no limit.
-use Rattle.std.proofs.Common.{◌≡◌, ℕ, ◌^◌, ◌≤◌, Bool, true, false, refl, sym, subst, cond, List, [], ◌∷◌, map, arith}
+use Rattle.std.proofs.Common.{◌≡◌, ℕ, ◌^◌, ◌≤◌, Bool, true, false, refl, sym, subst, cond, List, [], ◌∷◌, length, map, arith}
 use Rattle.std.proofs.lemmas.Bool.Decides.{nat_tests}
 use Rattle.std.proofs.lemmas.List.Elements.{All-from_recursion}
 use Rattle.std.specs.Prelude.{Option, Some, None, nat_lt}
 use Rattle.std.specs.List.{AllByRecursion}
 use Rattle.lay_base.specs.declared.faults.LimitKind.{LimitKind}
 use Rattle.lay_base.specs.declared.faults.LimitKind.TheVariants.{Nodes, Fields, Frame, Globals}
+use Rattle.c_types.specs.Types.{Record}
 use Rattle.c_typed.specs.Programs.{FunctionData, ProgramData}
 use Rattle.c_joining.specs.Joining.{joined}
 use Rattle.c_link.specs.Gaps.{first_past, past_alone, past, or_limit, first_limit, limits, local_bytes, global_bytes}
@@ -40,6 +41,7 @@ within p h =
     let d = no_first Globals (past p Globals) None c.1 in
     record {
       nodes = alone_within 131072 p.nodes a.0;
+      fields = All-from_recursion (λ (r : Record). length r.fields ≤ 64) p.records (each_within (λ r. length r.fields) 64 p.records b.0);
       frames = All-from_recursion (λ (f : FunctionData). local_bytes p f ≤ 2 ^ 24) p.functions (each_within (local_bytes p) (2 ^ 24) p.functions c.0);
       globals = alone_within (2 ^ 24) (global_bytes p) d.0;
     }

@@ -1,5 +1,5 @@
 -- Where what an object holds at first lies in it (C99 6.2.5, 6.7.8): what an interpreter asks that writes it there.
-use Rattle.std.specs.Prelude.{◌≡◌, ℕ, ◌+◌, ◌%◌, ◌^◌, ◌≤◌, true, List, All, Option, Some, None}
+use Rattle.std.specs.Prelude.{◌≡◌, ℕ, ◌+◌, ◌%◌, ◌^◌, ◌≤◌, true, List, All, length, Option, Some, None}
 use Rattle.lay_base.specs.declared.place.File.{File}
 use Rattle.c_types.specs.declared.ty.IntKind.TheVariants.{Char}
 use Rattle.c_types.specs.IntKinds.{width}
@@ -59,9 +59,11 @@ ProgramHasTexts p = (files : List File) → IsProgramOf files p → All (IsTextO
 
 -- ---- limits
 
--- how many nodes it has, and how many bytes the locals of a function take, and all objects with the strings that initialize locals
+-- how many nodes it has, how many fields a record, and how many bytes the locals of a function take, and all objects with the strings that initialize
+-- locals
 pub record IsWithinLimits (p : ProgramData) : Type 0 where
   pub nodes : p.nodes ≤ 131072
+  pub fields : All (λ r. length r.fields ≤ 64) p.records
   pub frames : All (λ f. local_bytes p f ≤ 2 ^ 24) p.functions
   pub globals : global_bytes p ≤ 2 ^ 24
 
@@ -71,3 +73,7 @@ ProgramsAreWithinLimits = (files : List File) (p : ProgramData) → IsProgramOf 
 -- each function has as few loops as a program may have nodes
 abbrev pub ProgramsHaveFewLoops : Type 0
 ProgramsHaveFewLoops = (files : List File) (p : ProgramData) → IsProgramOf files p → All (λ f. loops_of f ≤ 131072) p.functions
+
+-- and a program as few functions
+abbrev pub ProgramsHaveFewFunctions : Type 0
+ProgramsHaveFewFunctions = (files : List File) (p : ProgramData) → IsProgramOf files p → length p.functions ≤ 131072

@@ -1,7 +1,8 @@
 //! Laws about what is well typed.
 
 ghost use Rattle.c_typed.specs.Programs.{program_data};
-ghost use Rattle.c_well_typed.specs.Within.{InitialsLieWithin, ProgramHasTexts, ProgramsAreWithinLimits, ProgramsHaveFewLoops, TextsHoldNumbers};
+ghost use Rattle.c_well_typed.specs.Within.{InitialsLieWithin, ProgramHasTexts, ProgramsAreWithinLimits, ProgramsHaveFewFunctions};
+ghost use Rattle.c_well_typed.specs.Within.{ProgramsHaveFewLoops, TextsHoldNumbers};
 ghost use Rattle.c_well_typed.specs.Laws.{LocalsAreComplete, ProgramHasTypedFunctions, ProgramHasTypedObjects, ProgramIsWellTyped, UnitsAreWellTyped};
 ghost use Rattle.c_well_typed.specs.Laws.{UnitsHaveTypedFunctions, UnitsHaveWholeElements};
 ghost use Rattle.c_well_typed.specs.CountableUnits.{UnitsAreCountable};
@@ -102,6 +103,11 @@ pub fn programs_have_few_loops()
 {
     tokens_have_places();
 }
+
+/// And a program of files has few functions, since each is declared in the tree of a file (6.7, 6.9.1).
+pub fn programs_have_few_functions()
+    ensures { ProgramsHaveFewFunctions }
+{}
 
 /// The records of the unit of a file are complete, and each object, parameter and local of it has a complete type within the limits, so its
 /// objects can be counted (6.7, 6.9).

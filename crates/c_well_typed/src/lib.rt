@@ -14,9 +14,9 @@ mod program_weights;
 pub use gap_places::gaps_have_places;
 pub use laws::{
     initials_lie_within, locals_are_complete, moves_keep_typing, programs_are_well_typed,
-    programs_are_within_limits, programs_have_few_loops, programs_have_texts,
-    programs_have_typed_functions, programs_have_typed_objects, texts_hold_numbers,
-    units_are_countable, units_are_well_typed, units_have_typed_functions,
+    programs_are_within_limits, programs_have_few_functions, programs_have_few_loops,
+    programs_have_texts, programs_have_typed_functions, programs_have_typed_objects,
+    texts_hold_numbers, units_are_countable, units_are_well_typed, units_have_typed_functions,
     units_have_whole_elements,
 };
 pub use program_weights::{joined_are_bounded, programs_are_bounded, units_are_bounded};

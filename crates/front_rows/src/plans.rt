@@ -1,9 +1,10 @@
 //! The report of a program by its plan, as text.
 
-ghost use Rattle.std.specs.Prelude.{◌≤◌, All, IsTrue, length};
+ghost use Rattle.std.specs.Prelude.{◌<◌, ◌≤◌, ◌^◌, All, IsTrue, length};
 ghost use Rattle.c_types.specs.Views.{records_of};
 ghost use Rattle.layout_plan.specs.Planning.{HaveFewFields};
 
+use crate::profiles::MOST_FUNCTIONS;
 use c_typed::{Counts, Typed};
 use c_types::Record;
 use lay_base::{Bytes, File, List, NoMemory, add};
@@ -41,7 +42,8 @@ fn report_of(
     counts: Option<&Counts>,
 ) -> Result<Vec<u8>, NoMemory>
     requires short { All (λ file. length file.bytes ≤ 4194304) files.now }
-    requires few { HaveFewFields (records_of program.now.records) }
+    requires fields { HaveFewFields (records_of program.now.records) }
+    requires functions { length program.now.functions < 2 ^ 32 }
 {
     let planned = planned(alloc, program, counts)?;
     let places = places_of(alloc, files, planned.plan.records.as_slice())?;
@@ -59,6 +61,9 @@ pub fn put_report(
 )
     requires { All (λ file. length file.bytes ≤ 4194304) files.now }
 {
+    if program.functions.len() > MOST_FUNCTIONS {
+        return out.word("too many functions");
+    }
     if !have_few_fields(program.records.as_slice()) {
         return out.word("too many fields");
     }

@@ -4,7 +4,6 @@ pub mod Spelled
 pub mod Files
 pub mod NoPlaces
 pub mod Given
-pub mod Few
 pub mod Told
 pub mod Compiled
 pub mod Interpreted

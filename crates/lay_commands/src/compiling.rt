@@ -19,7 +19,9 @@ use crate::writing::write_bytes;
 use c_typed::{Counts, Typed};
 use compiled_files::compiled;
 use lay_base::{Bytes, File, Host, List, Name, NoMemory, Sink, add};
-use lay_compile::{PlaceTexts, place_text};
+use lay_compile::{
+    PlaceTexts, place_text, programs_are_within_limits, programs_have_few_functions,
+};
 use lay_report::report;
 use layout_plan::{Decision, Planned, RecordPlan, planned};
 use refusals::Refusal;
@@ -67,6 +69,8 @@ fn plan_to_keep(
     if request.plain {
         return Ok(None);
     }
+    programs_are_within_limits();
+    programs_have_few_functions();
     let planned = planned(alloc, p, counts)?;
     if is_changed(planned.plan.records.as_slice()) {
         return Err(Refusal::NotBuilt(Name::copy_of(alloc, name)?));
@@ -129,6 +133,7 @@ fn outputs_of(
     ensures { OutputsGive name.now (compilation_of request.now) inputs.now.source.files (program_data inputs.now.source.program) inputs.now.counts result }
 {
     let p = &inputs.source.program;
+    programs_are_within_limits();
     let planned = plan_to_keep(alloc, request, name, p, inputs.counts.as_ref())?;
     let elf = compiled(alloc, p, request.heap, request.stack)?;
     let report = report_of(alloc, inputs.source.files.as_slice(), p, planned.as_ref())?;

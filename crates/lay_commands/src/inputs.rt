@@ -16,8 +16,8 @@ use crate::words::CompileRequest;
 use c_typed::{Counts, Defined, Typed, profile_order};
 use lay_base::{Host, Name};
 use lay_compile::{
-    PlaceTexts, SourceProgram, bytes_of, check_number, programs_have_few_loops, read_files,
-    with_program,
+    PlaceTexts, SourceProgram, bytes_of, check_number, programs_have_few_functions,
+    programs_have_few_loops, read_files, with_program,
 };
 use profile_file::{ProfileFault, fits, read};
 use refusals::Refusal;
@@ -71,10 +71,7 @@ fn check_fit(alloc: Global, counts: &Counts, p: &Typed) -> Result<(), Refusal>
     requires { (files : Sequence File) × IsProgramOf files (program_data p.now) }
     ensures { FitGives counts.now (program_data p.now) result }
 {
-    // No memory holds so many.
-    if p.functions.len() > 0xFFFF_FFFF {
-        return Err(Refusal::Memory);
-    }
+    programs_have_few_functions();
     programs_have_few_loops();
     let order = profile_order(alloc, p)?;
     match fits(counts, p, order.as_slice()) {

@@ -2,6 +2,7 @@
 
 ghost use Rattle.std.specs.Prelude.{◌≡◌, ◌⊎◌, ◌≤◌, ◌^◌, All, Err, IfErr, length};
 ghost use Rattle.source_run.specs.declared.end.RunEnd.TheVariants.{Undefined};
+ghost use Rattle.c_link.specs.Programs.{IsProgramOf};
 ghost use Rattle.c_typed.specs.Programs.{program_data};
 ghost use Rattle.lay_commands.specs.Words.{AreTurns, interpretation_of};
 ghost use Rattle.lay_compile.specs.ProgramFiles.FrontEnd.{AreTexts, HasTexts};
@@ -12,7 +13,7 @@ ghost use Rattle.lay_commands.specs.Interpreting.{InterpGives, InterpretGives, T
 
 use crate::words::InterpRequest;
 use lay_base::{File, Host, Place, Sink, Source, UndefinedKind};
-use lay_compile::{PlaceTexts, SourceProgram, program_in, texts_of};
+use lay_compile::{PlaceTexts, SourceProgram, program_in, programs_have_few_functions, texts_of};
 use refusals::Refusal;
 use source_run::{RunEnd, Runner};
 use std::alloc::Global;
@@ -70,6 +71,7 @@ fn interpret<I: Source, O: Sink>(
     out: &mut O,
     texts: &mut PlaceTexts,
 ) -> Result<u8, Refusal>
+    requires program { IsProgramOf source.now.files (program_data source.now.program) }
     requires turns { turns ≤ 10 ^ 18 }
     requires short { All (λ file. length file.bytes ≤ 4194304) source.now.files }
     ensures gives { InterpretGives (program_data source.now.program) turns
@@ -77,6 +79,7 @@ fn interpret<I: Source, O: Sink>(
         (streams (I.left input.new) (I.faults input.new) (O.written out.new) (O.faults out.new)) result }
     ensures texts { IfErr result (λ refusal. AreTexts source.now.files refusal texts.new) }
 {
+    programs_have_few_functions();
     let mut runner = Runner::new(alloc, &source.program)?;
     let end = runner.run(alloc, input, out, turns);
     answer_for(alloc, source.files.as_slice(), end, texts)

@@ -1,6 +1,7 @@
 //! `profile`: the program of some files, run by its meaning, and how often its functions and loops ran.
 
 ghost use Rattle.std.specs.Prelude.{◌≡◌, ◌⊎◌, ◌≤◌, ◌^◌, All, IfErr, length};
+ghost use Rattle.c_link.specs.Programs.{IsProgramOf};
 ghost use Rattle.c_typed.specs.Programs.{program_data};
 ghost use Rattle.lay_commands.specs.Words.{AreTurns, profiling_of};
 ghost use Rattle.lay_compile.specs.ProgramFiles.FrontEnd.{AreTexts, HasTexts};
@@ -13,7 +14,7 @@ use crate::interpreting::answer_for;
 use crate::words::ProfileRequest;
 use crate::writing::write_bytes;
 use lay_base::{Host, Sink, Source};
-use lay_compile::{PlaceTexts, SourceProgram, program_in};
+use lay_compile::{PlaceTexts, SourceProgram, program_in, programs_have_few_functions};
 use refusals::Refusal;
 use source_run::Runner;
 use std::alloc::Global;
@@ -34,6 +35,7 @@ fn profile_of<I: Source, O: Sink>(
     out: &mut O,
     texts: &mut PlaceTexts,
 ) -> Result<Profiled, Refusal>
+    requires program { IsProgramOf source.now.files (program_data source.now.program) }
     requires turns { turns ≤ 10 ^ 18 }
     requires short { All (λ file. length file.bytes ≤ 4194304) source.now.files }
     ensures gives { ProfiledGives (program_data source.now.program) turns
@@ -41,6 +43,7 @@ fn profile_of<I: Source, O: Sink>(
         (streams (I.left input.new) (I.faults input.new) (O.written out.new) (O.faults out.new)) result }
     ensures texts { IfErr result (λ refusal. AreTexts source.now.files refusal texts.new) }
 {
+    programs_have_few_functions();
     let mut runner = Runner::new(alloc, &source.program)?;
     let end = runner.run(alloc, input, out, turns);
     let status = answer_for(alloc, source.files.as_slice(), end, texts)?;

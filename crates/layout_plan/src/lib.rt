@@ -4,8 +4,7 @@
 //! that memory is out; and that what it is made from are the facts, the first violations and the weights of the program (`IsPlanned`). A record that
 //! violates a test keeps the layout that is declared. No part is larger than a record may be.
 //!
-//! `NoMemory` is also answered where a program has 2^32 functions or more. Not proved: that a program with its records laid out so does what it did. That is
-//! said of the rewritings.
+//! Not proved: that a program with its records laid out so does what it did. That is said of the rewritings.
 #![tactic(auto)]
 
 mod laws;

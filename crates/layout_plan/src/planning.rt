@@ -1,6 +1,6 @@
 //! The plan of a program.
 
-ghost use Rattle.std.specs.Prelude.{◌≡◌, ◌≤◌, ◌<◌, ◌∷◌, [], IfOk, IsSomeAnd, length, slice_get};
+ghost use Rattle.std.specs.Prelude.{◌≡◌, ◌≤◌, ◌<◌, ◌^◌, ◌∷◌, [], IfOk, IsSomeAnd, length, slice_get};
 ghost use Rattle.std.specs.Option.{option_copied};
 ghost use Rattle.c_types.specs.Views.{record_of, records_of, types_of_fields};
 ghost use Rattle.c_typed.specs.Programs.{program_data};
@@ -144,13 +144,10 @@ pub fn plan(
 
 /// The plan of a program, by a profile or, where there is none, by the depths of loops; with the weights by which it was made.
 pub fn planned(alloc: Global, p: &Typed, counts: Option<&Counts>) -> Result<Planned, NoMemory>
-    requires { HaveFewFields (records_of p.now.records) }
+    requires fields { HaveFewFields (records_of p.now.records) }
+    requires functions { length p.now.functions < 2 ^ 32 }
     ensures { IfOk result (IsPlanned (option_copied counts.entry) (program_data p.now)) }
 {
-    // No memory holds so many.
-    if p.functions.len() > 0xFFFF_FFFF {
-        return Err(NoMemory);
-    }
     let facts = facts(alloc, p)?;
     let verdicts = judge(alloc, p, facts.as_slice())?;
     let weights = weigh(alloc, facts.as_slice(), counts)?;

@@ -1,6 +1,6 @@
 //! The runner of a program.
 
-ghost use Rattle.std.specs.Prelude.{◌≡◌, IfOk};
+ghost use Rattle.std.specs.Prelude.{◌≡◌, ◌<◌, ◌^◌, IfOk, length};
 ghost use Rattle.c_typed.specs.Programs.{program_data};
 ghost use Rattle.lower_tac.specs.Statements.{lowered};
 ghost use Rattle.source_run.specs.Fresh.{no_counts as counts_of_none};
@@ -36,6 +36,7 @@ fn answer(end: Final, turns: u64) -> RunEnd
 
 /// The counts of a program of which nothing was done.
 fn counts_at_start(alloc: Global, p: &Typed) -> Result<Counts, NoMemory>
+    requires { length p.now.functions < 2 ^ 32 }
     ensures { IfOk result (λ counts. counts ≡ counts_of_none (program_data p.now)) }
 {
     match no_counts(alloc, p) {
@@ -69,6 +70,7 @@ fn finish(
     end: Final,
     turns: u64,
 ) -> RunEnd
+    requires { length types.now.functions < 2 ^ 32 }
     ensures { HasFinished (program_data types.now) (state_of engine.now).core.counts kept.new end turns result }
 {
     match counts(alloc, types.typed(), &engine.room.counts) {
@@ -90,7 +92,8 @@ fn run_engine<I: Source, O: Sink>(
     out: &mut O,
     turns: u64,
 ) -> RunEnd
-    requires { IsAtStart types.now turns (state_of engine.old) }
+    requires start { IsAtStart types.now turns (state_of engine.old) }
+    requires functions { length types.now.functions < 2 ^ 32 }
     ensures { RunGives (program_data types.now) turns
         (streams (I.left input.old) (I.faults input.old) (O.written out.old) (O.faults out.old))
         (streams (I.left input.new) (I.faults input.new) (O.written out.new) (O.faults out.new)) kept.new result }
@@ -126,7 +129,8 @@ fn run_code<'a, I: Source, O: Sink>(
     out: &mut O,
     turns: u64,
 ) -> RunEnd
-    requires { code_of code.now ≡ lowered (program_data types.now) }
+    requires code { code_of code.now ≡ lowered (program_data types.now) }
+    requires functions { length types.now.functions < 2 ^ 32 }
     ensures { RunGives (program_data types.now) turns
         (streams (I.left input.old) (I.faults input.old) (O.written out.old) (O.faults out.old))
         (streams (I.left input.new) (I.faults input.new) (O.written out.new) (O.faults out.new)) kept.new result }
@@ -146,7 +150,7 @@ pub struct Runner<'a> {
 }
 
 impl<'a> Runner<'a> {
-    ghost use Rattle.std.specs.Prelude.{◌≡◌, ◌≤◌, ◌^◌, IfOk, IsSome, Some};
+    ghost use Rattle.std.specs.Prelude.{◌≡◌, ◌<◌, ◌≤◌, ◌^◌, IfOk, IsSome, Some, length};
     ghost use Rattle.c_typed.specs.declared.program.Typed.{Typed};
     ghost use Rattle.c_typed.specs.Programs.{program_data};
     ghost use Rattle.source_run.specs.Fresh.{IsFresh, no_counts};
@@ -155,6 +159,7 @@ impl<'a> Runner<'a> {
 
     /// A runner of the program, with counts that are all 0.
     pub fn new(alloc: Global, p: &'a Typed) -> Result<Runner<'a>, NoMemory>
+        requires { length p.now.functions < 2 ^ 32 }
         ensures fresh { IfOk result (λ runner. IsFresh p.entry.now runner) }
         ensures zero { IfOk result (λ runner. runner.counts ≡ no_counts (program_data p.entry.now)) }
     {
@@ -177,6 +182,7 @@ impl<'a> Runner<'a> {
         out: &mut O,
         turns: u64,
     ) -> RunEnd
+        requires { length self.old.types.functions < 2 ^ 32 }
         ensures { RunGives (program_data self.old.types) turns
             (streams (I.left input.old) (I.faults input.old) (O.written out.old) (O.faults out.old))
             (streams (I.left input.new) (I.faults input.new) (O.written out.new) (O.faults out.new)) self.new.counts result }
@@ -204,7 +210,8 @@ impl<'a> Runner<'a> {
         out: &mut O,
         turns: u64,
     ) -> RunEnd
-        requires { turns ≤ 10 ^ 18 }
+        requires turns { turns ≤ 10 ^ 18 }
+        requires functions { length self.old.types.functions < 2 ^ 32 }
         ensures ended { self.new.ended ≡ Some result }
         ensures again { IsSome self.old.ended → (self.new ≡ self.old) × (input.new ≡ input.old) × (out.new ≡ out.old) }
         ensures gives { (p : Typed) → IsFresh p self.old → RunGives (program_data p) turns

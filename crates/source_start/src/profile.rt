@@ -55,8 +55,9 @@ fn count_at(alloc: Global, p: &Typed, counters: &Counters, f: u32) -> Result<Fun
     })
 }
 
-/// The counts of each function that a program with fewer than 2^32 functions defines.
-fn counts_of(alloc: Global, p: &Typed, counters: &Counters) -> Result<Counts, NoMemory>
+/// The counts of each function that the program defines, in the order of a profile. `NoMemory` comes for want of memory, and where a
+/// function has 2^32 - 1 loops or more.
+pub fn counts(alloc: Global, p: &Typed, counters: &Counters) -> Result<Counts, NoMemory>
     requires { length p.now.functions < 2 ^ 32 }
     ensures { IfOk result (λ counts. counts ≡
         counts_by (entry_in (counting_of counters.now)) (begin_in (counting_of counters.now)) (program_data p.now)) }
@@ -68,16 +69,4 @@ fn counts_of(alloc: Global, p: &Typed, counters: &Counters) -> Result<Counts, No
         add(&mut functions, count)?;
     }
     Ok(Counts { functions })
-}
-
-/// The counts of each function that the program defines, in the order of a profile. `NoMemory` comes for want of memory, and where there
-/// are 2^32 functions or more, or a function has 2^32 - 1 loops or more.
-pub fn counts(alloc: Global, p: &Typed, counters: &Counters) -> Result<Counts, NoMemory>
-    ensures { IfOk result (λ counts. counts ≡
-        counts_by (entry_in (counting_of counters.now)) (begin_in (counting_of counters.now)) (program_data p.now)) }
-{
-    if p.functions.len() > 0xFFFF_FFFF {
-        return Err(NoMemory);
-    }
-    counts_of(alloc, p, counters)
 }

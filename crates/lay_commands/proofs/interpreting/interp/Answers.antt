@@ -14,6 +14,11 @@ returns-in_err-source-clause-gives g c =
     (inl (c.in_err-source.ensures.gives (stream (g.I.Source.left c.args.input.now) (g.I.Source.faults c.args.input.now))
     (stream (g.O.Sink.written c.args.out.now) (g.O.Sink.faults c.args.out.now))))
 
+pub interpret-requires-clause-program : goal.interpret-requires-clause-program
+interpret-requires-clause-program g c =
+    let nothing = stream (g.O.Sink.written c.args.out.now) 0 in
+    (c.in_ok-source.ensures.gives nothing nothing).1
+
 pub interpret-requires-clause-short : goal.interpret-requires-clause-short
 interpret-requires-clause-short g c =
     let nothing = stream (g.O.Sink.written c.args.out.now) 0 in

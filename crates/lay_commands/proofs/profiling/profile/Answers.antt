@@ -17,6 +17,11 @@ returns-in_err-source-clause-gives g c =
     (c.in_err-source.ensures.gives (stream (g.I.Source.left c.args.input.now) (g.I.Source.faults c.args.input.now))
     (stream (g.O.Sink.written c.args.out.now) (g.O.Sink.faults c.args.out.now))))
 
+pub profile_of-requires-clause-program : goal.profile_of-requires-clause-program
+profile_of-requires-clause-program g c =
+    let nothing = stream (g.O.Sink.written c.args.out.now) 0 in
+    (c.in_ok-source.ensures.gives nothing nothing).1
+
 pub profile_of-requires-clause-short : goal.profile_of-requires-clause-short
 profile_of-requires-clause-short g c =
     let nothing = stream (g.O.Sink.written c.args.out.now) 0 in

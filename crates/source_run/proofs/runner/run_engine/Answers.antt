@@ -11,12 +11,12 @@ use Rattle.tac_engine.specs.View.{state_of}
 pub returns-in-Ok-Over : goal.returns-in-Ok-Over
 returns-in-Ok-Over g c =
     is_over (program_data c.args.types.now) c.args.turns _ _ _ (state_of c.start.new.self) c.finish.new.kept c.in-Ok-Over.end
-    (far_begun c.args.types.now c.args.turns (omega arith) c.runs_are_same.ensures (state_of c.args.engine.now) c.requires _ (Over c.in-Ok-Over.end)
+    (far_begun c.args.types.now c.args.turns (omega arith) c.runs_are_same.ensures (state_of c.args.engine.now) c.requires.start _ (Over c.in-Ok-Over.end)
     (state_of c.start.new.self) (ap (λ (m : Moved). (m, state_of c.start.new.self)) (sym c.in-Ok-Over.field-0-is) ∙ c.in-Ok-Over.ensures)) refl c.finish.result c.finish.ensures
 
 pub loop-init : goal.loop-init
 loop-init g c =
-    far_begun c.args.types.now c.args.turns (omega arith) c.runs_are_same.ensures (state_of c.args.engine.now) c.requires _ Goes (state_of c.start.new.self)
+    far_begun c.args.types.now c.args.turns (omega arith) c.runs_are_same.ensures (state_of c.args.engine.now) c.requires.start _ Goes (state_of c.start.new.self)
     (ap (λ (m : Moved). (m, state_of c.start.new.self)) (sym c.in-Ok-Goes.field-0-is) ∙ c.in-Ok-Goes.ensures)
 
 pub loop-preserved : goal.loop-preserved

@@ -3,7 +3,7 @@ use Rattle.c_typed.specs.RunCounts.Counting.{count_at}
 use Rattle.c_typed.specs.Programs.{program_data}
 use Rattle.source_state.specs.CountsView.{counting_of}
 use Rattle.source_start.specs.Counted.{begin_in, entry_in}
-use Rattle.source_start.proofs.profile.counts_of.Given as goal
+use Rattle.source_start.proofs.profile.counts.Given as goal
 
 abbrev pub invariant-loop-f : goal.invariant-loop-f
 invariant-loop-f l = l.functions
