@@ -1,5 +1,5 @@
 -- What is kept during the walk over the facts, where memory is not out.
-use Rattle.std.specs.Prelude.{◌≡◌, ℕ, ◌+◌, ◌-◌, false, List, [], ◌∷◌, ◌++◌, length, reverse}
+use Rattle.std.specs.Prelude.{◌≡◌, ℕ, ◌+◌, ◌-◌, None, List, [], ◌∷◌, ◌++◌, length, reverse}
 use Rattle.c_facts.specs.declared.fact.Fact.{Fact}
 use Rattle.c_facts.specs.declared.fact.Fact.TheVariants as F
 use Rattle.affinity.specs.declared.access.Access.{Access}
@@ -51,9 +51,9 @@ abbrev pub open_in : Walk → Open
 open_in w = record { outer = reverse w.outer; depth = length w.outer; inner = w.inner; next = length w.weights }
 
 abbrev pub Opens : (old new : Walk) → (weight : ℕ) → Type 0
-Opens old new weight = new.full ≡ false → (old.full ≡ false) × (new.outer ≡ old.outer) × (new.inner ≡ length old.weights)
+Opens old new weight = new.want ≡ None → (old.want ≡ None) × (new.outer ≡ old.outer) × (new.inner ≡ length old.weights)
     × (new.weights ≡ old.weights ++ weight ∷ []) × (new.accesses ≡ old.accesses)
 
 abbrev pub Walks : (old new : Walk) → List Fact → Type 0
-Walks old new facts = new.full ≡ false → (old.full ≡ false) × (open_in new ≡ open_after (open_in old) facts)
+Walks old new facts = new.want ≡ None → (old.want ≡ None) × (open_in new ≡ open_after (open_in old) facts)
     × (new.accesses ≡ old.accesses ++ accesses_by (open_in old) facts) × (new.weights ≡ old.weights ++ guesses_by (open_in old) facts)

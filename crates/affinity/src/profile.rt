@@ -4,16 +4,14 @@ ghost use Rattle.std.specs.Prelude.{◌≡◌, ◌++◌, ◌∷◌, [], IfOk, On
 ghost use Rattle.c_facts.specs.Groups.{counts_in};
 
 use c_typed::{Counts, FunCount};
-use lay_base::{List, NoMemory, add};
+use lay_base::{List, NoMemory, add, append};
 use std::alloc::Global;
 
 fn add_function(all: &mut List<u64>, f: &FunCount) -> Result<(), NoMemory>
     ensures { OnOk result (all.new ≡ all.old ++ f.now.entries ∷ f.now.loops) }
 {
     add(all, f.entries)?;
-    all.as_mut_vec()
-        .extend_from_slice(f.loops.as_slice())
-        .map_err(|_| NoMemory)
+    append(all.as_mut_vec(), f.loops.as_slice())
 }
 
 /// The counts one behind the other: of each function its entries, then those of its loops.

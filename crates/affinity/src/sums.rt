@@ -6,7 +6,7 @@ ghost use Rattle.affinity.specs.Sums.{hotness, is_read};
 ghost use Rattle.affinity.specs.Touched.{common, is_marked, marked, marked_group, touched, touched_at_all};
 
 use crate::access::{Access, is_to};
-use lay_base::{List, NoMemory};
+use lay_base::{List, NoMemory, filled};
 use std::alloc::Global;
 
 /// How often a field is accessed, by the weights of groups.
@@ -79,10 +79,8 @@ fn mark_groups(marks: &mut [bool], all: &[Access])
 fn unmarked(alloc: Global, groups: usize) -> Result<List<bool>, NoMemory>
     ensures { IfOk result (λ marks. marks ≡ replicate groups false) }
 {
-    match vec![in alloc; false; groups] {
-        Ok(marks) => Ok(List::of(marks)),
-        Err(_) => Err(NoMemory),
-    }
+    let marks = filled(alloc, false, groups)?;
+    Ok(List::of(marks))
 }
 
 /// Which groups access a field.

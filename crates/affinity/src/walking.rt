@@ -1,23 +1,23 @@
 //! The walk over the facts: accesses and their groups.
 
-ghost use Rattle.std.specs.Prelude.{◌≡◌, ◌∷◌, [], false, length};
+ghost use Rattle.std.specs.Prelude.{◌≡◌, ◌∷◌, [], None, length};
 ghost use Rattle.c_facts.specs.declared.fact.Fact.TheVariants as F;
 ghost use Rattle.affinity.specs.GroupWeights.{guess};
 ghost use Rattle.affinity.specs.Walking.{Opens, Walks};
 
 use crate::access::Access;
 use c_facts::Fact;
-use lay_base::List;
+use lay_base::{List, NoMemory, add};
 use std::alloc::Global;
 
-/// The groups around the open one, innermost last; the open one; the guessed weights of all; the accesses; and whether memory was out.
+/// The groups around the open one, innermost last; the open one; the guessed weights of all; the accesses; and the want of memory for one of them.
 #[derive(Drop)]
 pub struct Walk {
     pub outer: List<usize>,
     pub inner: usize,
     pub weights: List<u64>,
     pub accesses: List<Access>,
-    pub full: bool,
+    pub want: Option<NoMemory>,
 }
 
 /// The weight of a loop at a depth, or of a function, at depth 0.
@@ -40,12 +40,12 @@ fn guess(depth: usize) -> u64
 fn open(walk: &mut Walk, weight: u64)
     ensures { Opens walk.old walk.new weight }
 {
-    if walk.full {
+    if walk.want.is_some() {
         return;
     }
     let number = walk.weights.len();
-    if walk.weights.push(weight).is_err() {
-        walk.full = true;
+    if let Err(want) = add(&mut walk.weights, weight) {
+        walk.want = Some(want);
         return;
     }
     walk.inner = number;
@@ -68,8 +68,8 @@ fn depth(walk: &Walk) -> usize
 fn open_loop(walk: &mut Walk)
     ensures { Walks walk.old walk.new (F.LoopBegins ∷ []) }
 {
-    if walk.outer.push(walk.inner).is_err() {
-        walk.full = true;
+    if let Err(want) = add(&mut walk.outer, walk.inner) {
+        walk.want = Some(want);
         return;
     }
     let weight = guess(depth(walk));
@@ -86,10 +86,10 @@ fn close_loop(walk: &mut Walk)
     }
 }
 
-fn add(walk: &mut Walk, of: u32, field: u32, is_read: bool)
+fn site(walk: &mut Walk, of: u32, field: u32, is_read: bool)
     ensures { Walks walk.old walk.new (F.Site of field is_read ∷ []) }
 {
-    if walk.full {
+    if walk.want.is_some() {
         return;
     }
     let access = Access {
@@ -98,8 +98,8 @@ fn add(walk: &mut Walk, of: u32, field: u32, is_read: bool)
         is_read,
         group: walk.inner,
     };
-    if walk.accesses.push(access).is_err() {
-        walk.full = true;
+    if let Err(want) = add(&mut walk.accesses, access) {
+        walk.want = Some(want);
     }
 }
 
@@ -110,7 +110,7 @@ fn step(walk: &mut Walk, fact: Fact)
         Fact::FunctionBegins => open_function(walk),
         Fact::LoopBegins => open_loop(walk),
         Fact::LoopEnds => close_loop(walk),
-        Fact::Site(of, field, is_read) => add(walk, of, field, is_read),
+        Fact::Site(of, field, is_read) => site(walk, of, field, is_read),
         _ => {}
     }
 }
@@ -125,14 +125,14 @@ fn walk_all(walk: &mut Walk, facts: &[Fact])
 
 /// The whole walk.
 pub fn walked(alloc: Global, facts: &[Fact]) -> Walk
-    ensures { Walks (record { outer = []; inner = 0; weights = []; accesses = []; full = false }) result facts.now }
+    ensures { Walks (record { outer = []; inner = 0; weights = []; accesses = []; want = None }) result facts.now }
 {
     let mut walk = Walk {
         outer: List::new(alloc),
         inner: 0,
         weights: List::new(alloc),
         accesses: List::new(alloc),
-        full: false,
+        want: None,
     };
     walk_all(&mut walk, facts);
     walk

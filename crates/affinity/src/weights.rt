@@ -26,8 +26,8 @@ pub fn weigh(alloc: Global, facts: &[Fact], counts: Option<&Counts>) -> Result<W
     ensures { IfOk result (Weighs (option_copied counts.entry) facts.now) }
 {
     let walk = walked(alloc, facts);
-    if walk.full {
-        return Err(NoMemory);
+    if let Some(want) = walk.want {
+        return Err(want);
     }
     match counts {
         None => Ok(Weights {

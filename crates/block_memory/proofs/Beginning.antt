@@ -32,7 +32,7 @@ kept_behind slots all free new sound le =
     (inl (let before = sound.ends k (holds_of_live (slot_at slots k) live some) in omega (arith, before)))))
 
 -- more cells behind all others
-pub kept_longer : (slots : List Slot) (all new : List Cell) (free : ℕ) (more : List Cell) → IsSound slots all free → new ≡ all ++ more → memory_in slots new ≡ memory_in slots all
+kept_longer : (slots : List Slot) (all new : List Cell) (free : ℕ) (more : List Cell) → IsSound slots all free → new ≡ all ++ more → memory_in slots new ≡ memory_in slots all
 kept_longer slots all new free more sound en =
     let long : length new ≡ length all + length more = ap length en ∙ length-append all more in
     same_memory slots slots all new refl
@@ -42,6 +42,11 @@ kept_longer slots all new free more sound en =
     (λ n lt. ap (λ c. cell_at c (4 * o.start + n)) en ∙ get_or_append_left all more Empty (4 * o.start + n) (omega (arith, there, lt)))))
 
 -- or none, where they were refused
+pub kept_grown : (slots : List Slot) (all new : List Cell) (free : ℕ) (more : List Cell) (r : Result (Unit {0}) NoMemory) → IsSound slots all free
+    → MatchResult r (λ _. new ≡ all ++ more) (λ refused. new ≡ all) → memory_in slots new ≡ memory_in slots all
+kept_grown slots all new free more (Ok u) sound en = kept_longer slots all new free more sound en
+kept_grown slots all new free more (Err refused) sound en = ap (memory_in slots) en
+
 pub sound_grown : (slots : List Slot) (all new : List Cell) (free : ℕ) (more : List Cell) (r : Result (Unit {0}) NoMemory) → IsSound slots all free
     → MatchResult r (λ _. new ≡ all ++ more) (λ refused. new ≡ all) → IsSound slots new free
 sound_grown slots all new free more (Ok u) sound en = sound_long slots all new free sound (omega (arith, ap length en, length-append all more))

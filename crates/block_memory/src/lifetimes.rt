@@ -1,6 +1,6 @@
 //! When blocks begin and end.
 
-ghost use Rattle.std.specs.Prelude.{◌≡◌, ◌∷◌, [], ◌<◌};
+ghost use Rattle.std.specs.Prelude.{◌≡◌, ◌∷◌, [], ◌<◌, ◌^◌, IfOk};
 ghost use Rattle.memory_words.specs.declared.cell_words.cell.Cell.TheVariants.{Byte};
 ghost use Rattle.block_memory.specs.Blocks.{size, with_cells};
 ghost use Rattle.block_memory.specs.Lifetimes.{free, is_heap, with_end};
@@ -28,11 +28,12 @@ fn is_heap(kind: BlockKind) -> bool
 impl Store {
     /// A new block that holds nothing: its number.
     pub fn alloc(&mut self, alloc: Global, size: u32, kind: BlockKind) -> Result<u64, NoMemory>
-        ensures { AllocGives (memory_of self.old) (memory_of self.new) size kind result }
+        ensures gives { AllocGives (memory_of self.old) (memory_of self.new) size kind result }
+        ensures few { IfOk result (λ b. b < 2 ^ 32) }
     {
         let number = self.slots.len();
         if number >= u32::MAX as usize {
-            return Err(NoMemory);
+            return Err(NoMemory::unearned());
         }
         let count = words_for(size);
         self.make_room(count)?;
@@ -43,13 +44,9 @@ impl Store {
             size,
         };
         self.arena.fill(4 * self.free, Content::Empty, size);
-        match self.slots.push(slot) {
-            Ok(()) => {
-                self.free += count;
-                Ok(number as u64)
-            }
-            Err(_) => Err(NoMemory),
-        }
+        self.slots.push(slot)?;
+        self.free += count;
+        Ok(number as u64)
     }
 
     /// The lifetime of a block ends; what has ended stays as it is.

@@ -110,16 +110,13 @@ impl Store {
     {
         let end = self.free + count;
         if end >= WORDS {
-            return Err(NoMemory);
+            return Err(NoMemory::unearned());
         }
         let words = self.arena.words();
         if end <= words {
             return Ok(());
         }
-        match self.arena.grow(end - words) {
-            Ok(()) => Ok(()),
-            Err(_) => Err(NoMemory),
-        }
+        self.arena.grow(end - words)
     }
 
     /// So many words behind all live blocks.

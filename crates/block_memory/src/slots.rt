@@ -75,7 +75,8 @@ impl Slots {
     /// A slot behind all others.
     #[tactic(auto, using(crate::proofs::Slotting::slot_push))]
     pub(crate) fn push(&mut self, slot: Slot) -> Result<(), NoMemory>
-        requires { slot.start < 2 ^ 29 }
+        requires many { length self.old < 2 ^ 32 }
+        requires small { slot.start < 2 ^ 29 }
         ensures { MatchResult result (λ _. self.new ≡ self.old ++ slot ∷ []) (λ refused. self.new ≡ self.old) }
     {
         self.items.reserve(1)?;

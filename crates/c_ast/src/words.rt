@@ -2,7 +2,7 @@
 
 ghost use Rattle.std.specs.Prelude.{◌≡◌, ◌≤◌, length, IfOk, IsOk};
 
-use lay_base::NoMemory;
+use lay_base::{NoMemory, short_copy};
 use smallvec::SmallVec;
 use std::alloc::Global;
 use std::marker::Model;
@@ -31,10 +31,8 @@ impl Text {
         ensures ok { IfOk result (λ text. text ≡ bytes.now) }
         ensures short { length bytes.now ≤ 16 → IsOk result }
     {
-        match SmallVec::from_slice(alloc, bytes) {
-            Ok(bytes) => Ok(Text { bytes }),
-            Err(_) => Err(NoMemory),
-        }
+        let bytes = short_copy(alloc, bytes)?;
+        Ok(Text { bytes })
     }
 
     /// The bytes, lent.

@@ -71,4 +71,4 @@ fault_found none rules number file items t (F.TooBig at) tree h e = (refl, stops
 fault_found none rules number file items t (F.IllTyped rule at) tree h e = (refl, stops none rules number file items t _ tree h e)
 fault_found none rules number file items t (F.Undeclared x at) tree h e = (refl, stops none rules number file items t _ tree h e)
 fault_found none rules number file items t (F.Redeclared x at first) tree h e = (refl, refl, stops none rules number file items t _ tree h e)
-fault_found none rules number file items t F.Memory tree h e = tt
+fault_found none rules number file items t (F.Memory want) tree h e = tt

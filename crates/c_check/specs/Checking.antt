@@ -35,7 +35,7 @@ OnFault number (C.TooBig place) Is = (place.file ≡ number) × Is (too_big plac
 OnFault number (C.IllTyped rule place) Is = (place.file ≡ number) × Is (ill_typed rule place.at)
 OnFault number (C.Undeclared x place) Is = (place.file ≡ number) × Is (undeclared x place.at)
 OnFault number (C.Redeclared x place first) Is = (place.file ≡ number) × (first.file ≡ number) × Is (redeclared x place.at first.at)
-OnFault number C.Memory Is = Unit {0}
+OnFault number (C.Memory want) Is = Unit {0}
 
 abbrev pub HasNoUnit : (number : ℕ) → File → List Trees.Item → Type 0
 HasNoUnit number file items = (u : UnitData) → ErasesTo number file.name file.bytes items u → ⊥
@@ -51,4 +51,4 @@ fault_in number (F.TooBig at) = C.TooBig (record { file = number; at = at })
 fault_in number (F.IllTyped rule at) = C.IllTyped rule (record { file = number; at = at })
 fault_in number (F.Undeclared x at) = C.Undeclared x (record { file = number; at = at })
 fault_in number (F.Redeclared x at first) = C.Redeclared x (record { file = number; at = at }) (record { file = number; at = first })
-fault_in number F.Memory = C.Memory
+fault_in number (F.Memory want) = C.Memory want

@@ -17,14 +17,14 @@ pub enum CheckFault {
     Undeclared(Name, Place),
     /// A name that is declared a second time: where, and where first.
     Redeclared(Name, Place, Place),
-    Memory,
+    Memory(NoMemory),
 }
 
 impl From<NoMemory> for CheckFault {
-    ghost from_gives = { λ _ fault. fault ≡ Memory };
+    ghost from_gives = { λ want fault. fault ≡ Memory want };
 
-    fn from(_want: NoMemory) -> CheckFault {
-        CheckFault::Memory
+    fn from(want: NoMemory) -> CheckFault {
+        CheckFault::Memory(want)
     }
 }
 
@@ -39,6 +39,6 @@ pub fn fault_in(file: u16, fault: Fault) -> CheckFault
         Fault::Redeclared(name, at, first) => {
             CheckFault::Redeclared(name, Place { file, at }, Place { file, at: first })
         }
-        Fault::Memory => CheckFault::Memory,
+        Fault::Memory(want) => CheckFault::Memory(want),
     }
 }

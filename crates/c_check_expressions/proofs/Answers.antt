@@ -28,7 +28,7 @@ then_fails (TooBig at) r f h = ap (λ z. z >>= f) h
 then_fails (IllTyped rule at) r f h = ap (λ z. z >>= f) h
 then_fails (Undeclared x at) r f h = ap (λ z. z >>= f) h
 then_fails (Redeclared x at first) r f h = ap (λ z. z >>= f) h
-then_fails Memory r f h = tt
+then_fails (Memory want) r f h = tt
 
 -- a fault is one of any answer
 pub fails_so : (A B : Type 0) (fault : Fault) (f : Broken.Fault) → Fails fault (let r : Answer A = Err f in r) → Fails fault (let r : Answer B = Err f in r)
@@ -36,14 +36,14 @@ fails_so A B (TooBig at) f h = let e : f ≡ Broken.too_big at = cc in ap Err e
 fails_so A B (IllTyped rule at) f h = let e : f ≡ Broken.ill_typed rule at = cc in ap Err e
 fails_so A B (Undeclared x at) f h = let e : f ≡ Broken.undeclared x at = cc in ap Err e
 fails_so A B (Redeclared x at first) f h = let e : f ≡ Broken.redeclared x at first = cc in ap Err e
-fails_so A B Memory f h = tt
+fails_so A B (Memory want) f h = tt
 
 pub never_fails : (A B : Type 0) (fault : Fault) (x : A) (r : Answer B) → Fails fault (let r : Answer A = Ok x in r) → Fails fault r
 never_fails A B (TooBig at) x r h = cc
 never_fails A B (IllTyped rule at) x r h = cc
 never_fails A B (Undeclared y at) x r h = cc
 never_fails A B (Redeclared y at first) x r h = cc
-never_fails A B Memory x r h = tt
+never_fails A B (Memory want) x r h = tt
 
 -- ---- lists of which the first items are passed
 

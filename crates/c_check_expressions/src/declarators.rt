@@ -140,7 +140,7 @@ fn parameters(
             Err(fault) => return Err(fault),
             Ok(t) => match add_parameter(alloc, &mut block, &mut done, p, t) {
                 Ok(()) => {}
-                Err(_) => return Err(Fault::Memory),
+                Err(want) => return Err(Fault::Memory(want)),
             },
         }
     }

@@ -323,7 +323,7 @@ fn index(
         (λ f. value_at (first (tree_of b.now)) (find (tree_of b.now) (moved (scope_of file.old scope.entry) f))) (array_in (thing_of thing))) file.new }
 {
     match array_of(thing) {
-        Err(_) => Err(Fault::Memory),
+        Err(want) => Err(Fault::Memory(want)),
         Ok(Subscripted::Array(p, t)) => match value(alloc, b, file, scope) {
             Err(fault) => Err(fault),
             Ok(i) => element(alloc, left, begin.place, p, t, i),
@@ -408,7 +408,7 @@ fn arguments(
             Err(fault) => return Err(fault),
             Ok(x) => match add(&mut done, x.into_inner()) {
                 Ok(()) => types = more,
-                Err(_) => return Err(Fault::Memory),
+                Err(want) => return Err(Fault::Memory(want)),
             },
         }
     }

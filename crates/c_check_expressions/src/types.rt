@@ -86,7 +86,7 @@ pub fn boxed_base(
         Err(fault) => Err(fault),
         Ok(t) => match boxed(alloc, t) {
             Ok(t) => Ok(t),
-            Err(_) => Err(Fault::Memory),
+            Err(want) => Err(Fault::Memory(want)),
         },
     }
 }
@@ -104,11 +104,10 @@ pub fn base(
         (one_of (specifiers_of (map specifier_of specifiers.now)) (scope_of file.old scope.entry))) file.new }
 {
     match base_kind(specifiers.as_slice()) {
-        Err(_) => Err(Fault::Memory),
-        Ok(Base::Void) => Ok(Ty::Void),
-        Ok(Base::Int(kind)) => Ok(Ty::Int(kind)),
-        Ok(Base::One) => one_of(alloc, specifiers, file, scope),
-        Ok(Base::Missing) => Err(Fault::IllTyped(
+        Base::Void => Ok(Ty::Void),
+        Base::Int(kind) => Ok(Ty::Int(kind)),
+        Base::One => one_of(alloc, specifiers, file, scope),
+        Base::Missing => Err(Fault::IllTyped(
             Rule::Specifiers,
             first_of_specifiers(specifiers.as_slice()),
         )),
@@ -196,7 +195,7 @@ fn members(
             Err(fault) => return Err(fault),
             Ok(own) => match add_members(&mut done, own) {
                 Ok(()) => {}
-                Err(_) => return Err(Fault::Memory),
+                Err(want) => return Err(Fault::Memory(want)),
             },
         }
     }
@@ -246,7 +245,7 @@ fn member_declarators(
             Err(fault) => return Err(fault),
             Ok(field) => match add(&mut done, field) {
                 Ok(()) => {}
-                Err(_) => return Err(Fault::Memory),
+                Err(want) => return Err(Fault::Memory(want)),
             },
         }
     }

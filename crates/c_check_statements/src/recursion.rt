@@ -268,7 +268,7 @@ fn switch_items(
     }
     match close(alloc, &mut arms, last) {
         Ok(()) => Ok(arms),
-        Err(_) => Err(Fault::Memory),
+        Err(want) => Err(Fault::Memory(want)),
     }
 }
 
@@ -310,7 +310,7 @@ fn switch_item(
                 Ok(own) => match performed(alloc, a, in_switch(around), file, block, locals) {
                     Ok(st) => match add_labelled(alloc, arms, last, own, st) {
                         Ok(()) => Ok(()),
-                        Err(_) => Err(Fault::Memory),
+                        Err(want) => Err(Fault::Memory(want)),
                     },
                     Err(fault) => Err(fault),
                 },

@@ -6,7 +6,7 @@ use Rattle.c_cursor.specs.declared.failure.Failure.TheVariants.{Memory, NoParse}
 
 -- want of memory says nothing of it
 abbrev pub Fails : {Y : Type 0} → Failure → Option Y → Type 0
-Fails Memory read = Unit {0}
+Fails (Memory want) read = Unit {0}
 Fails (NoParse left) read = read ≡ None
 
 abbrev pub Gives : {X Y : Type 0} → (X → Y) → Result X Failure → Option Y → Type 0

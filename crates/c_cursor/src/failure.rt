@@ -8,16 +8,16 @@ use lay_base::NoMemory;
 #[derive(Clone, Copy)]
 pub enum Failure {
     /// Memory is out.
-    Memory,
+    Memory(NoMemory),
     /// What stands here cannot be read so. It is known by how many tokens are left where reading
     /// stopped.
     NoParse(usize),
 }
 
 impl From<NoMemory> for Failure {
-    ghost from_gives = { λ _ failure. failure ≡ Memory };
+    ghost from_gives = { λ want failure. failure ≡ Memory want };
 
-    fn from(_want: NoMemory) -> Failure {
-        Failure::Memory
+    fn from(want: NoMemory) -> Failure {
+        Failure::Memory(want)
     }
 }

@@ -3,17 +3,17 @@
 ghost use Rattle.std.specs.Prelude.{◌≡◌, ◌++◌, ◌∷◌, [], OnErr, OnOk};
 ghost use Rattle.c_ast.specs.WellFormed.{is_typename};
 
-use lay_base::{Name, NoMemory};
+use indexmap::IndexSet;
+use lay_base::{Name, NoMemory, copied, put_key, reserve};
 use std::alloc::Global;
-use std::collections::HashSet;
 use std::marker::Model;
 
 /// Names in the order of their declarations, of which one is found in constant time.
 #[derive(Drop)]
 pub struct Typenames {
-    // The list that contracts speak of. A set forgets the order, and what is declared twice.
+    // The list that contracts speak of. A set forgets what is declared twice.
     names: Vec<Name>,
-    table: HashSet<Vec<u8>>,
+    table: IndexSet<Vec<u8>>,
 }
 
 impl Model for Typenames {
@@ -36,7 +36,7 @@ impl Typenames {
     {
         Typenames {
             names: Vec::new(alloc),
-            table: HashSet::new(alloc),
+            table: IndexSet::new(alloc),
         }
     }
 
@@ -52,15 +52,11 @@ impl Typenames {
         ensures added { OnOk result (self.new ≡ self.old ++ name.now ∷ []) }
         ensures unchanged { OnErr result (self.new ≡ self.old) }
     {
-        let key = Vec::from_slice(alloc, name).map_err(|_| NoMemory)?;
-        let copy = Vec::from_slice(alloc, name).map_err(|_| NoMemory)?;
-        self.names.reserve(1).map_err(|_| NoMemory)?;
-        match self.table.insert(key) {
-            Ok(_) => {
-                self.names.push_reserved(Name::of(copy));
-                Ok(())
-            }
-            Err(_) => Err(NoMemory),
-        }
+        let key = copied(alloc, name)?;
+        let copy = copied(alloc, name)?;
+        reserve(&mut self.names, 1)?;
+        put_key(&mut self.table, key)?;
+        self.names.push_reserved(Name::of(copy));
+        Ok(())
     }
 }

@@ -15,4 +15,4 @@ unchanged view (Err (TooBig at)) a f h = ap (with_file (file_of f)) h
 unchanged view (Err (IllTyped rule at)) a f h = ap (with_file (file_of f)) h
 unchanged view (Err (Undeclared x at)) a f h = ap (with_file (file_of f)) h
 unchanged view (Err (Redeclared x at first)) a f h = ap (with_file (file_of f)) h
-unchanged view (Err Memory) a f h = tt
+unchanged view (Err (Memory want)) a f h = tt

@@ -19,4 +19,4 @@ Refuses (Err (TooBig at)) o = o ≡ Some (Broken.too_big at)
 Refuses (Err (IllTyped rule at)) o = o ≡ Some (Broken.ill_typed rule at)
 Refuses (Err (Undeclared x at)) o = o ≡ Some (Broken.undeclared x at)
 Refuses (Err (Redeclared x at first)) o = o ≡ Some (Broken.redeclared x at first)
-Refuses (Err Memory) o = Unit {0}
+Refuses (Err (Memory want)) o = Unit {0}

@@ -23,7 +23,7 @@ use c_nodes::{Fault, unmade, way};
 use c_scopes::{FileScope, Purpose, Scope};
 use c_tokens::{Token, TokenKind};
 use c_types::{IntKind, Ty};
-use lay_base::{Bytes, List, Name, NoMemory, Place, add, shared};
+use lay_base::{Bytes, List, Name, NoMemory, Place, add, copied, push, shared};
 use std::alloc::Global;
 
 /// Whether tokens are one string literal, from the first byte up to that one.
@@ -50,7 +50,7 @@ fn is_literal(alloc: Global, text: &[u8]) -> Result<bool, NoMemory>
     tokens_have_texts();
     match lex(alloc, text, 0) {
         Ok(tokens) => Ok(is_one_text(tokens.list.as_slice(), text.len())),
-        Err(LexFault::Memory) => Err(NoMemory),
+        Err(LexFault::Memory(want)) => Err(want),
         Err(_) => Ok(false),
     }
 }
@@ -62,7 +62,7 @@ fn add_literal(alloc: Global, bytes: &mut Vec<u8>, text: &[u8]) -> Result<(), No
     if is_literal(alloc, text)? {
         add_text_bytes(bytes, text)
     } else {
-        Err(NoMemory)
+        Err(NoMemory::unearned())
     }
 }
 
@@ -74,10 +74,8 @@ pub fn literal_bytes(alloc: Global, all: &[Spelling]) -> Result<Bytes, NoMemory>
     for x in all {
         add_literal(alloc, &mut bytes, x.text.as_slice())?;
     }
-    match bytes.push(0) {
-        Ok(()) => Ok(Bytes::of(bytes)),
-        Err(_) => Err(NoMemory),
-    }
+    push(&mut bytes, 0)?;
+    Ok(Bytes::of(bytes))
 }
 
 /// The type of an array of characters.
@@ -91,15 +89,11 @@ fn characters(alloc: Global, n: u32) -> Result<Ty, NoMemory>
 fn initial_text(alloc: Global, bytes: &Bytes) -> Result<Initializer, NoMemory>
     ensures { IfOk result (λ it. initializer_of it ≡ parts (record { offset = 0; value = text bytes.now } ∷ [])) }
 {
-    match Vec::from_slice(alloc, bytes.as_slice()) {
-        Ok(copy) => {
-            let value = PartValue::Text(Bytes::of(copy));
-            let mut all = List::new(alloc);
-            add(&mut all, InitializerPart { offset: 0, value })?;
-            Ok(Initializer::Parts(all))
-        }
-        Err(_) => Err(NoMemory),
-    }
+    let copy = copied(alloc, bytes.as_slice())?;
+    let value = PartValue::Text(Bytes::of(copy));
+    let mut all = List::new(alloc);
+    add(&mut all, InitializerPart { offset: 0, value })?;
+    Ok(Initializer::Parts(all))
 }
 
 /// The object of a string literal, which has that type.
@@ -133,7 +127,7 @@ fn add_object(
 {
     let number = match u32::try_from(file.objects.len()) {
         Ok(number) => number,
-        Err(_) => return Err(Fault::Memory),
+        Err(_) => return Err(Fault::Memory(NoMemory::unearned())),
     };
     let object = literal_object(alloc, at, characters(alloc, n)?, bytes)?;
     add(&mut file.objects, object)?;
@@ -154,7 +148,7 @@ pub fn literal(
     let bytes = literal_bytes(alloc, all)?;
     let n = match u32::try_from(bytes.len()) {
         Ok(n) => n,
-        Err(_) => return Err(Fault::Memory),
+        Err(_) => return Err(Fault::Memory(NoMemory::unearned())),
     };
     match scope.purpose {
         Purpose::InFull => add_object(alloc, file, scope, at, n, bytes),

@@ -53,7 +53,7 @@ pub fn listed(
 {
     match mention(alloc, file, scope, before, MentionKind::Named, &t, at) {
         Ok(()) => Ok(t),
-        Err(_) => Err(Fault::Memory),
+        Err(want) => Err(Fault::Memory(want)),
     }
 }
 

@@ -11,7 +11,7 @@ use c_annotated::Mention;
 use c_scopes::{FileScope, Purpose, Scope};
 use c_typed::MentionKind;
 use c_types::{Ty, copy};
-use lay_base::{List, NoMemory};
+use lay_base::{List, NoMemory, insert_at};
 use std::alloc::Global;
 use std::mem;
 
@@ -33,13 +33,9 @@ fn insert(
 {
     let mut items = mem::replace(all, List::new(alloc)).into_vec();
     let place = before.min(items.len());
-    match items.insert(place, one) {
-        Ok(()) => {
-            *all = List::of(items);
-            Ok(())
-        }
-        Err(_) => Err(NoMemory),
-    }
+    insert_at(&mut items, place, one)?;
+    *all = List::of(items);
+    Ok(())
 }
 
 /// Lists one before those that are listed from a place of the list on.

@@ -13,7 +13,7 @@ ghost use Rattle.c_declaring.specs.Finds.{Refuses};
 use c_ast::{Declarator, MemberDeclaration, MemberDeclarator, Spelling};
 use c_nodes::{Fault, name};
 use c_scopes::Names;
-use lay_base::{Boxed, List, NoMemory};
+use lay_base::{Boxed, List, NoMemory, push, reserve};
 use std::alloc::Global;
 
 /// The name that a declarator declares.
@@ -49,9 +49,7 @@ fn add_names<'a>(found: &mut Vec<&'a Spelling>, all: &'a [MemberDeclarator]) -> 
 {
     for d in all {
         if let Some(x) = declared_name(&d.declarator) {
-            if found.push(x).is_err() {
-                return Err(NoMemory);
-            }
+            push(found, x)?;
         }
     }
     Ok(())
@@ -109,7 +107,7 @@ impl<'a> Standing<'a> {
     fn add(&mut self, alloc: Global, y: &'a Spelling) -> Result<(), NoMemory>
         ensures { OnOk result (lent self.new.found.items ≡ lent self.old.found.items ++ y.now ∷ []) }
     {
-        self.found.reserve(1).map_err(|_| NoMemory)?;
+        reserve(&mut self.found, 1)?;
         self.names.add(alloc, y.text.as_slice())?;
         self.found.push_reserved(y);
         Ok(())

@@ -38,7 +38,7 @@ fn constant(
 {
     match mention(alloc, file, scope, before, MentionKind::Sizeof, &it.ty, at) {
         Ok(()) => size_constant(alloc, place, it),
-        Err(_) => Err(Fault::Memory),
+        Err(want) => Err(Fault::Memory(want)),
     }
 }
 

@@ -18,7 +18,7 @@ use c_ast::{MemberDeclaration, Spelling};
 use c_nodes::{Fault, name};
 use c_scopes::{FileScope, Scope, place_in};
 use c_types::{Field, Record, RecordFault, Records, Ty, checked_size_of, is_object};
-use lay_base::{List, Name, Place, Rule};
+use lay_base::{List, Name, NoMemory, Place, Rule};
 use std::alloc::Global;
 
 /// The tag of a structure that is defined, and its place.
@@ -99,13 +99,13 @@ fn define(file: &mut FileScope, it: Record) -> Result<Ty, Fault>
 {
     // Members are of complete types, and structures are fewer than the bytes of a file.
     if file.records.len() == u32::MAX || !are_objects(&file.records, it.fields.as_slice()) {
-        return Err(Fault::Memory);
+        return Err(Fault::Memory(NoMemory::unearned()));
     }
     let at = it.place.at;
     match file.records.add(it) {
         Ok(number) => Ok(Ty::Record(number)),
         Err(RecordFault::TooBig(_)) => Err(Fault::TooBig(at)),
-        Err(RecordFault::Memory) => Err(Fault::Memory),
+        Err(RecordFault::Memory(want)) => Err(Fault::Memory(want)),
     }
 }
 

@@ -81,7 +81,7 @@ fn add_function(
     ensures added { OnOk result (file_of file.new
         ≡ with_new_function (file_of file.old) (new_function (file_of file.old) (storage_view words) x.now place (type_of t.now) nodes)) }
 {
-    let n = u32::try_from(file.functions.len()).map_err(|_| NoMemory)?;
+    let n = u32::try_from(file.functions.len()).map_err(|_| NoMemory::unearned())?;
     let g = Function {
         name: name(alloc, x.text.as_slice())?,
         place: Place {

@@ -87,7 +87,7 @@ fn add_object(
     ensures number { IfOk result (λ n. n ≡ length file.old.objects) }
     ensures added { OnOk result (file_of file.new ≡ with_new_object (file_of file.old) (new_object (file_of file.old) (storage_view words) x.now place (type_of t.now))) }
 {
-    let n = u32::try_from(file.objects.len()).map_err(|_| NoMemory)?;
+    let n = u32::try_from(file.objects.len()).map_err(|_| NoMemory::unearned())?;
     let o = Object {
         name: name(alloc, x.text.as_slice())?,
         place: Place {

@@ -133,7 +133,7 @@ fn named(alloc: Global, all: &[Parameter], types: &[Ty]) -> Result<Option<Receiv
         if add_parameter(alloc, &mut received, number, p, &types[index])?.is_none() {
             return Ok(None);
         }
-        number = number.checked_add(1).ok_or(NoMemory)?;
+        number = number.checked_add(1).ok_or(NoMemory::unearned())?;
     }
     Ok(Some(received))
 }

@@ -8,7 +8,7 @@ ghost use Rattle.c_scopes.specs.Scoping.{file_of};
 
 use c_annotated::{Bound, Entity, How, Initializer, Object};
 use c_scopes::FileScope;
-use lay_base::{List, NoMemory, add};
+use lay_base::{List, NoMemory, add, push};
 use std::alloc::Global;
 
 /// Marks the object that a tentative definition declares.
@@ -33,7 +33,7 @@ fn no_marks(alloc: Global, count: usize) -> Result<Vec<bool>, NoMemory>
 {
     let mut marks = Vec::new(alloc);
     for n in 0..count {
-        marks.push(false).map_err(|_| NoMemory)?;
+        push(&mut marks, false)?;
     }
     Ok(marks)
 }
@@ -80,10 +80,9 @@ fn all_settled(
     ensures { IfOk result (λ all. map object_of all ≡ settled_each marks.now (map object_of objects)) }
 {
     let mut all = List::new(alloc);
-    let mut n: usize = 0;
     for o in objects.into_vec() {
+        let n = all.len();
         add(&mut all, settled(alloc, o, is_marked(marks, n)))?;
-        n = n.checked_add(1).ok_or(NoMemory)?;
     }
     Ok(all)
 }

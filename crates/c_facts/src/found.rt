@@ -4,24 +4,24 @@ ghost use Rattle.std.specs.Prelude.{◌∷◌, [], if◌then◌else◌};
 ghost use Rattle.c_facts.specs.Puts.{Puts};
 
 use crate::fact::Fact;
-use lay_base::List;
+use lay_base::{List, NoMemory, add};
 
-/// Facts, and whether memory was out for one of them.
+/// Facts, and the want of memory for one of them.
 #[derive(Drop)]
 pub struct Found {
     pub list: List<Fact>,
-    pub full: bool,
+    pub want: Option<NoMemory>,
 }
 
 /// Adds a fact, unless memory was out.
 pub fn put(found: &mut Found, fact: Fact)
     ensures { Puts found.old found.new (fact ∷ []) }
 {
-    if found.full {
+    if found.want.is_some() {
         return;
     }
-    if found.list.push(fact).is_err() {
-        found.full = true;
+    if let Err(want) = add(&mut found.list, fact) {
+        found.want = Some(want);
     }
 }
 

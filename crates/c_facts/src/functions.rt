@@ -47,12 +47,11 @@ pub fn facts(alloc: Global, p: &Typed) -> Result<List<Fact>, NoMemory>
     let order = profile_order(alloc, p)?;
     let mut found = Found {
         list: List::new(alloc),
-        full: false,
+        want: None,
     };
     functions(&mut found, p, order.as_slice());
-    if found.full {
-        return Err(NoMemory);
+    match found.want {
+        Some(want) => Err(want),
+        None => Ok(found.list),
     }
-    let Found { list, full: _ } = found;
-    Ok(list)
 }

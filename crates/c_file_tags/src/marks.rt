@@ -6,7 +6,7 @@ ghost use Rattle.c_file_tags.specs.Marks.{marks_in};
 ghost use Rattle.c_scopes.specs.SyntaxTags.Tables.{tag_of};
 
 use c_scopes::TagMark;
-use lay_base::NoMemory;
+use lay_base::{NoMemory, push};
 use std::alloc::Global;
 
 /// What a file declares inside its specifiers.
@@ -38,27 +38,21 @@ impl<'a> Marks<'a> {
     pub fn add_tag(&mut self, tag: TagMark<'a>) -> Result<(), NoMemory>
         ensures { OnOk result (marks_in self.new ≡ marks_in self.old ++ a_tag (tag_of tag.entry) ∷ []) }
     {
-        match self.list.push(Mark::Tag(tag)) {
-            Ok(()) => Ok(()),
-            Err(_) => Err(NoMemory),
-        }
+        push(&mut self.list, Mark::Tag(tag))?;
+        Ok(())
     }
 
     pub fn add_end(&mut self, tag: &'a [u8], right: u32) -> Result<(), NoMemory>
         ensures { OnOk result (marks_in self.new ≡ marks_in self.old ++ an_end tag.entry.now right ∷ []) }
     {
-        match self.list.push(Mark::End(tag, right)) {
-            Ok(()) => Ok(()),
-            Err(_) => Err(NoMemory),
-        }
+        push(&mut self.list, Mark::End(tag, right))?;
+        Ok(())
     }
 
     pub fn add_name(&mut self, from: u32) -> Result<(), NoMemory>
         ensures { OnOk result (marks_in self.new ≡ marks_in self.old ++ a_name from ∷ []) }
     {
-        match self.list.push(Mark::Name(from)) {
-            Ok(()) => Ok(()),
-            Err(_) => Err(NoMemory),
-        }
+        push(&mut self.list, Mark::Name(from))?;
+        Ok(())
     }
 }

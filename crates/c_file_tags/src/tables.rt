@@ -1,6 +1,6 @@
 //! The lists that the marks of a file tell.
 
-ghost use Rattle.std.specs.Prelude.{◌≡◌, ◌<◌, ◌^◌, ◌++◌, [], ◌∷◌, IfOk, OnOk, length};
+ghost use Rattle.std.specs.Prelude.{◌≡◌, ◌++◌, [], ◌∷◌, IfOk, OnOk};
 ghost use Rattle.c_ast.specs.Views.{items_of};
 ghost use Rattle.c_erasure.specs.Marks.{defined_in, ends_in, firsts, marks_of_file, tags_in, undefined_in};
 ghost use Rattle.c_scopes.specs.SyntaxTags.Untagged.{untagged_by};
@@ -11,7 +11,7 @@ use crate::marks::{Mark, Marks};
 use crate::walk::file_marks;
 use c_ast::Tree;
 use c_scopes::{Names, TagTable, Untagged};
-use lay_base::NoMemory;
+use lay_base::{NoMemory, push};
 use std::alloc::Global;
 
 /// The tags of a file, the ends of its structure definitions, and the tags of its structures by their numbers.
@@ -59,10 +59,7 @@ fn note_end(ends: &mut Vec<u32>, mark: &Mark) -> Result<(), NoMemory>
     ensures { OnOk result (ends.new.items ≡ ends.old.items ++ ends_in (mark_of mark.now ∷ [])) }
 {
     match mark {
-        Mark::End(_, right) => match ends.push(*right) {
-            Ok(()) => Ok(()),
-            Err(_) => Err(NoMemory),
-        },
+        Mark::End(_, right) => push(ends, *right),
         Mark::Tag(_) | Mark::Name(_) => Ok(()),
     }
 }
@@ -116,14 +113,10 @@ pub fn tables_of(alloc: Global, untagged: &Untagged, tree: &Tree) -> Result<Tabl
     ensures ends { IfOk result (λ t. t.ends.items ≡ ends_in (marks_of_file (untagged_by untagged.now) (items_of tree.now))) }
     ensures numbered { IfOk result (λ t. t.numbered ≡ defined_in (marks_of_file (untagged_by untagged.now) (items_of tree.now))
         ++ undefined_in (marks_of_file (untagged_by untagged.now) (items_of tree.now))) }
-    ensures few { IfOk result (λ t. length t.ends.items < 2 ^ 32) }
 {
     let marks = file_marks(alloc, untagged, tree.items.as_slice())?;
     let tags = tag_table(alloc, &marks)?;
     let ends = ends_of(alloc, &marks)?;
-    if ends.len() >= 4294967296 {
-        return Err(NoMemory);
-    }
     let numbered = numbered_tags(alloc, &marks)?;
     Ok(Tables {
         tags,

@@ -14,16 +14,14 @@ use c_scopes::Untagged;
 use c_tokens::{Presumed, Token, TokenKind};
 use indexmap::IndexMap;
 use itoa::Buffer;
-use lay_base::{File, Keyword, Name, NoMemory};
-use std::alloc::{AllocError, Global};
+use lay_base::{File, Keyword, Name, NoMemory, append, copied, push, put};
+use std::alloc::Global;
 
 fn add_place(places: &mut Vec<u32>, token: Token) -> Result<(), NoMemory>
     ensures { OnOk result (places.new.items ≡ places.old.items ++ place_of_struct token.kind token.from) }
 {
     if let TokenKind::Keyword(Keyword::Struct) = token.kind {
-        if places.push(token.from).is_err() {
-            return Err(NoMemory);
-        }
+        push(places, token.from)?;
     }
     Ok(())
 }
@@ -55,16 +53,16 @@ fn presumed_name<'a>(file: &'a File, presumed: Presumed) -> &'a [u8]
     name
 }
 
-fn tag_bytes(alloc: Global, name: &[u8], line: u32, number: u32) -> Result<Vec<u8>, AllocError>
+fn tag_bytes(alloc: Global, name: &[u8], line: u32, number: u32) -> Result<Vec<u8>, NoMemory>
     ensures { IfOk result (λ tag. tag.items ≡ tag_text (name.now, line) number) }
 {
     let mut buffer = Buffer::new();
-    let mut tag = Vec::from_slice(alloc, b"@")?;
-    tag.extend_from_slice(name)?;
-    tag.extend_from_slice(b":")?;
-    tag.extend_from_slice(buffer.format(line).as_bytes())?;
-    tag.extend_from_slice(b":")?;
-    tag.extend_from_slice(buffer.format(number).as_bytes())?;
+    let mut tag = copied(alloc, b"@")?;
+    append(&mut tag, name)?;
+    append(&mut tag, b":")?;
+    append(&mut tag, buffer.format(line).as_bytes())?;
+    append(&mut tag, b":")?;
+    append(&mut tag, buffer.format(number).as_bytes())?;
     Ok(tag)
 }
 
@@ -79,15 +77,13 @@ fn count_one(
     ensures counted { OnOk result ((q : Line) →
         counted_at counts.new.entries q ≡ counted_at counts.old.entries q + (if is_line q (name.now, line) then 1 else 0)) }
 {
-    let key = (Vec::from_slice(alloc, name).map_err(|_| NoMemory)?, line);
+    let key = (copied(alloc, name)?, line);
     let known = counts.get(&key).copied().unwrap_or(0);
     let Some(number) = known.checked_add(1) else {
-        return Err(NoMemory);
+        return Err(NoMemory::unearned());
     };
-    match counts.insert(key, number) {
-        Ok(_) => Ok(number),
-        Err(_) => Err(NoMemory),
-    }
+    put(counts, key, number)?;
+    Ok(number)
 }
 
 fn add_tag(
@@ -100,11 +96,8 @@ fn add_tag(
 ) -> Result<(), NoMemory>
     ensures { OnOk result (tags.new.entries ≡ insert_entry nat_eq tags.old.entries at (tag_text (name.now, line) number)) }
 {
-    let tag = tag_bytes(alloc, name, line, number).map_err(|_| NoMemory)?;
-    match tags.insert(at, Name::of(tag)) {
-        Ok(_) => Ok(()),
-        Err(_) => Err(NoMemory),
-    }
+    let tag = tag_bytes(alloc, name, line, number)?;
+    put(tags, at, Name::of(tag))
 }
 
 /// The tags of the structures that begin at these bytes.

@@ -1,11 +1,9 @@
 -- A table of names answers as their list does, also after one more name.
-use Rattle.std.proofs.Common.{◌≡◌, ℕ, Bool, true, false, not, ◌||◌, List, [], ◌∷◌, ◌++◌, Vec, Global, refl, sym, ◌∙◌, ap, subst}
-use Rattle.std.specs.Bool.{MatchBool}
+use Rattle.std.proofs.Common.{◌≡◌, ℕ, Bool, true, false, ◌||◌, List, [], ◌∷◌, ◌++◌, Vec, Global, refl, sym, ◌∙◌, ap, subst}
+use Rattle.std.specs.Prelude.{if◌then◌else◌}
 use Rattle.std.specs.List.{list_any}
-use Rattle.std.specs.List.Sorted.{IsPermutation}
 use Rattle.std.specs.Str.{bytes_eq}
 use Rattle.std.proofs.lemmas.List.Folds.{list_any-append}
-use Rattle.std.proofs.lemmas.List.Sorted.{list_any-IsPermutation}
 use Rattle.std.proofs.lemmas.Slice.Eq.{bytes_eq-Decides}
 use Rattle.c_ast.specs.WellFormed.{is_typename}
 
@@ -31,16 +29,13 @@ known names name x h =
         ≡ (is_typename names y || true) in subst P (sym ((bytes_eq-Decides x name).0 e)) (rw h refl))
     same false e = or_false (is_typename names x) false
 
-pub one_more : (old new : Keys) (names : List (List ℕ)) (key : Vec ℕ Global) (added : Bool) → ((x : List ℕ) → has_key old x ≡ is_typename names x)
-    → added ≡ not (has_key old key.items) → MatchBool added (IsPermutation (key ∷ old) new) (new ≡ old) → (x : List ℕ) → has_key new x
-    ≡ is_typename (names ++ key.items ∷ []) x
-one_more old new names key true same a p x =
-    sym (list_any-IsPermutation (λ k. bytes_eq x k.items) (key ∷ old) new p)
-    ∙ ap (λ b. bytes_eq x key.items || b) (same x)
-    ∙ sym (list_any-append (bytes_eq x) names (key.items ∷ []) ∙ or_false (is_typename names x) (bytes_eq x key.items))
-one_more old new names key false same a p x =
-    ap (λ keys. has_key keys x) p ∙ same x ∙ sym (known names key.items x (sym (same key.items) ∙ true_of (has_key old key.items) a))
+pub one_more : (old new : Keys) (names : List (List ℕ)) (key : Vec ℕ Global) → ((x : List ℕ) → has_key old x ≡ is_typename names x)
+    → new ≡ (if has_key old key.items then old else old ++ key ∷ []) → (x : List ℕ) → has_key new x ≡ is_typename (names ++ key.items ∷ []) x
+one_more old new names key same put x = ap (λ keys. has_key keys x) put ∙ put_so (has_key old key.items) refl
   where
-    true_of : (b : Bool) → false ≡ not b → b ≡ true
-    true_of true h = refl
-    true_of false h = h
+    put_so : (b : Bool) → has_key old key.items ≡ b → has_key (if b then old else old ++ key ∷ []) x ≡ is_typename (names ++ key.items ∷ []) x
+    put_so true h = same x ∙ sym (known names key.items x (sym (same key.items) ∙ h))
+    put_so false h =
+        list_any-append (λ k. bytes_eq x k.items) old (key ∷ [])
+        ∙ ap (λ b. b || (bytes_eq x key.items || false)) (same x)
+        ∙ sym (list_any-append (bytes_eq x) names (key.items ∷ []))

@@ -1,6 +1,6 @@
 //! Bytes of objects, and moves from one to another.
 
-ghost use Rattle.std.specs.Prelude.{◌≡◌, IfOk, IfSome};
+ghost use Rattle.std.specs.Prelude.{◌≡◌, ◌≤◌, ◌^◌, ◌+ℤ◌, ◌*ℤ◌, IfOk, IfSome, nat_abs, pos};
 ghost use Rattle.std.specs.Option.{option_map};
 ghost use Rattle.c_typed.specs.AnswerViews.{constant_view};
 ghost use Rattle.c_typed.specs.InitialValues.{inside, moved, number_in, or_negated, subscripted, within};
@@ -55,12 +55,12 @@ fn within(
     records: &Records,
     objects: &[Object],
     n: u32,
-    offset: i64,
+    offset: i128,
 ) -> Result<Option<Address>, NoMemory>
     ensures { IfOk result (λ a. option_map address_of a ≡ within (declared_by records.now objects.now) n offset) }
 {
-    let size = object_size(records, objects, n).ok_or(NoMemory)?;
-    if offset < 0 || offset > i64::from(size) {
+    let size = object_size(records, objects, n).ok_or(NoMemory::unearned())?;
+    if offset < 0 || offset > i128::from(size) {
         Ok(None)
     } else {
         Ok(Some(Address {
@@ -68,6 +68,14 @@ fn within(
             offset: offset as u32,
         }))
     }
+}
+
+/// The byte that lies so many elements from another, which is none of an object where it is too far.
+fn byte_at(from: u32, k: i128, size: u32) -> i128
+    requires { nat_abs k ≤ 2 ^ 63 }
+    ensures { result ≡ pos from +ℤ k *ℤ pos size }
+{
+    i128::from(from) + k * i128::from(size)
 }
 
 /// So many elements further on in the object.
@@ -82,8 +90,7 @@ pub fn moved(
 {
     match (a, k) {
         (Some(a), Some(k)) => {
-            let step = k.checked_mul(i64::from(size)).ok_or(NoMemory)?;
-            let offset = i64::from(a.offset).checked_add(step).ok_or(NoMemory)?;
+            let offset = byte_at(a.offset, i128::from(k), size);
             within(records, objects, a.object, offset)
         }
         _ => Ok(None),
@@ -102,12 +109,13 @@ pub fn moved_by(
     ensures { IfOk result (λ r. option_map address_of r
         ≡ moved (declared_by records.now objects.now) (option_map address_of a) (or_negated (declared_by records.now objects.now) op k) size) }
 {
-    match (op, k) {
-        (PointerOp::Subtract, Some(k)) => {
-            let negated = (-1_i64).checked_mul(k).ok_or(NoMemory)?;
-            moved(records, objects, a, Some(negated), size)
+    match (op, a, k) {
+        (PointerOp::Subtract, Some(a), Some(k)) => {
+            let offset = byte_at(a.offset, (-1_i128) * i128::from(k), size);
+            within(records, objects, a.object, offset)
         }
-        (_, k) => moved(records, objects, a, k, size),
+        (PointerOp::Subtract, _, _) => Ok(None),
+        (PointerOp::Add, a, k) => moved(records, objects, a, k, size),
     }
 }
 
@@ -157,7 +165,7 @@ fn element_at(
             if !is_subscript(length, addressed, k) {
                 return Ok(None);
             }
-            let size = size(records, element).ok_or(NoMemory)?;
+            let size = size(records, element).ok_or(NoMemory::unearned())?;
             moved(records, objects, Some(a), Some(k), size)
         }
         _ => Ok(None),
@@ -175,7 +183,7 @@ pub fn inside(
     match a {
         None => Ok(None),
         Some(a) => {
-            let size = object_size(records, objects, a.object).ok_or(NoMemory)?;
+            let size = object_size(records, objects, a.object).ok_or(NoMemory::unearned())?;
             if a.offset < size {
                 Ok(Some(a))
             } else {

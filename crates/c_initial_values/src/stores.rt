@@ -55,7 +55,7 @@ fn add_text(found: &mut List<Store>, offset: u32, bytes: &[u8]) -> Result<(), No
     for byte in bytes {
         let value = Value::Number(IntKind::Char, u32::from(*byte));
         add_store(found, at, Ty::Int(IntKind::Char), value)?;
-        at = at.checked_add(1).ok_or(NoMemory)?;
+        at = at.checked_add(1).ok_or(NoMemory::unearned())?;
     }
     Ok(())
 }

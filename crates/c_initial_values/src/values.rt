@@ -45,7 +45,7 @@ fn address_in(
             }
         }
         ExpressionNode::PointerAdd(op, x, y) => {
-            let size = element_size(records, &e.ty).ok_or(NoMemory)?;
+            let size = element_size(records, &e.ty).ok_or(NoMemory::unearned())?;
             if is_pointer(&x.get().ty) {
                 let k = number_in(&y.get().ty, constant_of(y.get()));
                 let a = address_in(x.get(), records, objects)?;
@@ -79,13 +79,13 @@ fn address_of_path(
         })),
         PathNode::Deref(e) => address_in(e.get(), records, objects),
         PathNode::Index(e, i) => {
-            let size = element_size(records, &e.get().ty).ok_or(NoMemory)?;
+            let size = element_size(records, &e.get().ty).ok_or(NoMemory::unearned())?;
             let k = number_in(&i.get().ty, constant_of(i.get()));
             let a = address_in(e.get(), records, objects)?;
             moved(records, objects, a, k, size)
         }
         PathNode::Member(p, r, field) => {
-            let offset = field_offset(records, *r, *field).ok_or(NoMemory)?;
+            let offset = field_offset(records, *r, *field).ok_or(NoMemory::unearned())?;
             let a = address_of_path(false, p.get(), records, objects)?;
             let a = moved(records, objects, a, Some(i64::from(offset)), 1)?;
             inside(records, objects, a)

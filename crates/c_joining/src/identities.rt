@@ -18,7 +18,7 @@ pub fn next(number: u32) -> Result<u32, NoMemory>
 {
     match number.checked_add(1) {
         Some(n) => Ok(n),
-        None => Err(NoMemory),
+        None => Err(NoMemory::unearned()),
     }
 }
 

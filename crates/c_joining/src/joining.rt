@@ -114,7 +114,7 @@ fn sum(n: u64, m: u64) -> Result<u64, NoMemory>
 {
     match n.checked_add(m) {
         Some(s) => Ok(s),
-        None => Err(NoMemory),
+        None => Err(NoMemory::unearned()),
     }
 }
 

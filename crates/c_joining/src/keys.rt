@@ -3,14 +3,14 @@
 ghost use Rattle.std.specs.Prelude.{◌≡◌, ◌++◌, IfOk, OnOk};
 ghost use Rattle.c_joining.specs.Joining.{identity, named, own};
 
-use lay_base::{Name, NoMemory};
+use lay_base::{Name, NoMemory, copied, push};
 use std::alloc::Global;
 
 fn append(key: &mut Vec<u32>, name: &Name) -> Result<(), NoMemory>
     ensures { OnOk result (key.new.items ≡ key.old.items ++ name.now) }
 {
     for byte in name.as_slice() {
-        key.push(u32::from(*byte)).map_err(|_| NoMemory)?;
+        push(key, u32::from(*byte))?;
     }
     Ok(())
 }
@@ -29,7 +29,7 @@ pub fn named_key(alloc: Global, name: &Name) -> Result<Vec<u32>, NoMemory>
     ensures { IfOk result (λ key. key.items ≡ named name.now) }
 {
     let mut key = Vec::new(alloc);
-    key.push(0).map_err(|_| NoMemory)?;
+    push(&mut key, 0)?;
     append(&mut key, name)?;
     Ok(key)
 }
@@ -38,7 +38,7 @@ pub fn named_key(alloc: Global, name: &Name) -> Result<Vec<u32>, NoMemory>
 pub fn own_key(alloc: Global, unit: u32, number: u32) -> Result<Vec<u32>, NoMemory>
     ensures { IfOk result (λ key. key.items ≡ own unit number) }
 {
-    Vec::from_slice(alloc, &[1, unit, number]).map_err(|_| NoMemory)
+    copied(alloc, &[1, unit, number])
 }
 
 /// The key of what a unit has under that number.

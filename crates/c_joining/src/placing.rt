@@ -6,7 +6,7 @@ ghost use Rattle.c_joining.specs.Placing.{place, put, replaces};
 ghost use Rattle.c_typed.specs.Programs.{data_of};
 
 use c_typed::{Function, Object};
-use lay_base::NoMemory;
+use lay_base::{NoMemory, push};
 
 /// Puts a thing to those before it, or in the place of the one that has its number.
 pub fn put<T: Drop>(all: &mut Vec<T>, number: u32, replaces: bool, it: T) -> Result<(), NoMemory>
@@ -14,9 +14,7 @@ pub fn put<T: Drop>(all: &mut Vec<T>, number: u32, replaces: bool, it: T) -> Res
 {
     let n = number as usize;
     if n >= all.len() {
-        all.reserve(1).map_err(|_| NoMemory)?;
-        all.push_reserved(it);
-        return Ok(());
+        return push(all, it);
     }
     if replaces {
         all[n] = it;

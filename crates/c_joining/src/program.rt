@@ -17,8 +17,8 @@ use crate::tables::{Tables, program_tables};
 use crate::tags::number_of;
 use c_numbers::KeyTable;
 use c_typed::{Typed, Unit};
-use c_types::{Field, Record, Records, checked_size_of, is_object};
-use lay_base::{List, NoMemory};
+use c_types::{Field, Record, RecordFault, Records, checked_size_of, is_object};
+use lay_base::{List, NoMemory, copied};
 use std::alloc::Global;
 
 /// Whether each field is an object type that is not too big, over the records that are there.
@@ -46,13 +46,13 @@ fn join_record(records: &mut Records, number: u32, r: Record) -> Result<(), NoMe
         return Ok(());
     }
     if records.len() == u32::MAX || !are_objects(records, r.fields.as_slice()) {
-        return Err(NoMemory);
+        return Err(NoMemory::unearned());
     }
     match records.add(r) {
-        Ok(_) => {}
-        Err(_) => return Err(NoMemory),
+        Ok(_) => Ok(()),
+        Err(RecordFault::Memory(want)) => Err(want),
+        Err(RecordFault::TooBig(_)) => Err(NoMemory::unearned()),
     }
-    Ok(())
 }
 
 /// The first record of each tag.
@@ -71,7 +71,7 @@ fn joined_records(alloc: Global, tags: &KeyTable, all: List<Record>) -> Result<R
 fn number_of_main(alloc: Global, functions: &KeyTable) -> Result<u32, NoMemory>
     ensures { IfOk result (λ n. n ≡ position functions.now (named (codes "main"))) }
 {
-    let key = Vec::from_slice(alloc, &[0, 109, 97, 105, 110]).map_err(|_| NoMemory)?;
+    let key = copied(alloc, &[0, 109, 97, 105, 110])?;
     Ok(functions.number(&key))
 }
 

@@ -11,17 +11,15 @@ use crate::tags::numbers_of_structures;
 use c_numbers::{KeyTable, Numbers, renumbered_type};
 use c_typed::Unit;
 use c_types::{Field, Record};
-use lay_base::{List, Name, NoMemory, add};
+use lay_base::{List, Name, NoMemory, add, copied};
 use std::alloc::Global;
 
 /// A copy of a name.
 pub fn copy_of_name(alloc: Global, name: &Name) -> Result<Name, NoMemory>
     ensures { IfOk result (λ copy. copy ≡ name.now) }
 {
-    match Vec::from_slice(alloc, name.as_slice()) {
-        Ok(bytes) => Ok(Name::of(bytes)),
-        Err(_) => Err(NoMemory),
-    }
+    let bytes = copied(alloc, name.as_slice())?;
+    Ok(Name::of(bytes))
 }
 
 fn renumbered_field(alloc: Global, numbers: &Numbers, f: &Field) -> Result<Field, NoMemory>

@@ -51,7 +51,7 @@ scanned_fault p t bytes (L.BadByte at) e = answer_says p t bytes (Err _) e
 scanned_fault p t bytes (L.BadLiteral at) e = answer_says p t bytes (Err _) e
 scanned_fault p t bytes (L.Unclosed at) e = answer_says p t bytes (Err _) e
 scanned_fault p t bytes (L.TooWide at) e = answer_says p t bytes (Err _) e
-scanned_fault p t bytes L.Memory e = tt
+scanned_fault p t bytes (L.Memory want) e = tt
 
 -- ---- the part at the front
 

@@ -13,7 +13,7 @@ OnFault (L.BadByte at) Says = Says F.BadByte at
 OnFault (L.BadLiteral at) Says = Says F.BadLiteral at
 OnFault (L.Unclosed at) Says = Says F.Unclosed at
 OnFault (L.TooWide at) Says = Says F.TooWide at
-OnFault L.Memory Says = Unit {0}
+OnFault (L.Memory want) Says = Unit {0}
 
 -- the tokens of the file, or its first fault
 abbrev pub LexGives : List ℕ → ℕ → Result Tokens LexFault → Type 0

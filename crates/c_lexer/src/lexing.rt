@@ -1,7 +1,6 @@
 //! All tokens of a text.
 
-ghost use Rattle.std.specs.Prelude.{◌≡◌, ◌≤◌, ◌<◌, ◌+◌, ◌++◌, length, true, IfOk, IfErr, OnOk, option_to_list};
-ghost use Rattle.c_lexer.specs.declared.fault.LexFault.TheVariants as L;
+ghost use Rattle.std.specs.Prelude.{◌≡◌, ◌≤◌, ◌<◌, ◌+◌, ◌++◌, length, true, IfOk, OnOk, option_to_list};
 ghost use Rattle.c_lexer.specs.Scanning.{scan, token_in, step_at, ScanGives, fault_at};
 ghost use Rattle.c_lexer.specs.Answers.{LexGives};
 ghost use Rattle.c_lexer.specs.Readings.{HaveOneReading};
@@ -12,7 +11,7 @@ use crate::fault::LexFault;
 use crate::parts::{after_white, begins_line_after_part, part_at, punctuator_alone};
 use crate::words::token_of;
 use c_tokens::{FaultKind, PartKind, Token, TokenKind, Tokens};
-use lay_base::{Bytes, List};
+use lay_base::{Bytes, List, NoMemory, copied, push};
 use std::alloc::Global;
 
 /// The token that a part is, where it is one.
@@ -76,14 +75,11 @@ fn step_at(at: u32, begins_line: bool, text: &[u8]) -> Result<Step, FaultKind>
     })
 }
 
-fn add(tokens: &mut Vec<Token>, found: Option<Token>) -> Result<(), LexFault>
+fn add(tokens: &mut Vec<Token>, found: Option<Token>) -> Result<(), NoMemory>
     ensures added { OnOk result (tokens.new.items ≡ tokens.old.items ++ option_to_list found) }
-    ensures refused { IfErr result (λ fault. fault ≡ L.Memory) }
 {
     if let Some(token) = found {
-        if tokens.push(token).is_err() {
-            return Err(LexFault::Memory);
-        }
+        push(tokens, token)?;
     }
     Ok(())
 }
@@ -133,14 +129,12 @@ pub fn lex(alloc: Global, bytes: &[u8], file: u16) -> Result<Tokens, LexFault>
     ensures { LexGives bytes.now file result }
 {
     let list = tokens_of(alloc, bytes)?;
-    match Vec::from_slice(alloc, bytes) {
-        Ok(copy) => Ok(Tokens {
-            file,
-            bytes: Bytes::of(copy),
-            list: List::of(list),
-        }),
-        Err(_) => Err(LexFault::Memory),
-    }
+    let copy = copied(alloc, bytes)?;
+    Ok(Tokens {
+        file,
+        bytes: Bytes::of(copy),
+        list: List::of(list),
+    })
 }
 
 /// A text has one list of tokens, or one first fault, and not both.

@@ -6,7 +6,7 @@ ghost use Rattle.c_tokens.specs.QuotedScan.{string_bytes};
 ghost use Rattle.c_lexer.specs.StringBytes.{StringsHaveBytes};
 
 use crate::quoted::{body_of, item_at};
-use lay_base::NoMemory;
+use lay_base::{NoMemory, push};
 use std::alloc::Global;
 
 /// Adds the bytes of the string literal with this text, without an ending zero (C99 6.4.5). Called
@@ -21,9 +21,7 @@ pub fn add_text_bytes(bytes: &mut Vec<u8>, text: &[u8]) -> Result<(), NoMemory>
         let Some((value, count)) = item_at(rest) else {
             return Ok(());
         };
-        if bytes.push(value as u8).is_err() {
-            return Err(NoMemory);
-        }
+        push(bytes, value as u8)?;
         (_, rest) = rest.split_at(count);
     }
     Ok(())

@@ -13,7 +13,7 @@ pub lack_is_gap : (units : List UnitData) (tags : List (List ℕ)) (p : ProgramD
     → Fails (IsLack tags p) gap → LinkGives units (Err gap)
 lack_is_gap units tags p (Missing x) agree e f h = (agree, subst (λ them. IsMissingOf them (joined units) x) e (subst (λ it. IsMissingOf tags it x) f h))
 lack_is_gap units tags p NoMain agree e f h = (agree, subst HasNoMain f h)
-lack_is_gap units tags p Memory agree e f h = tt
+lack_is_gap units tags p (Memory want) agree e f h = tt
 lack_is_gap units tags p (TagClash t) agree e f h = absurd h
 lack_is_gap units tags p (NameClash t) agree e f h = absurd h
 lack_is_gap units tags p (Twice t) agree e f h = absurd h
@@ -29,7 +29,7 @@ within_is_program units p (Ok q) agree e complete h = record {
 }
 within_is_program units p (Err (Limit it)) agree e complete h =
     (agree, subst IsComplete e complete, subst (λ q. first_limit q limits ≡ Some (it.which, it.counted)) e h)
-within_is_program units p (Err Memory) agree e complete h = tt
+within_is_program units p (Err (Memory want)) agree e complete h = tt
 within_is_program units p (Err (Missing x)) agree e complete h = absurd h
 within_is_program units p (Err NoMain) agree e complete h = absurd h
 within_is_program units p (Err (TagClash t)) agree e complete h = absurd h

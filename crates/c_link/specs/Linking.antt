@@ -15,7 +15,7 @@ Fails Is (Twice t) = Is (Gaps.twice (trouble_of t))
 Fails Is (Missing x) = Is (Gaps.missing x)
 Fails Is NoMain = Is Gaps.no_main
 Fails Is (Limit it) = Is (Gaps.limit it.which it.counted)
-Fails Is Memory = Unit {0}
+Fails Is (Memory want) = Unit {0}
 
 -- units are at odds, or they agree
 abbrev pub AgreeGives : List UnitData → Result (Unit {0}) declared.Gap → Type 0

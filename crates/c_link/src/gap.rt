@@ -20,13 +20,13 @@ pub enum Gap {
     Missing(Name),
     NoMain,
     Limit(Passed),
-    Memory,
+    Memory(NoMemory),
 }
 
 impl From<NoMemory> for Gap {
-    ghost from_gives = { λ _ gap. gap ≡ Memory };
+    ghost from_gives = { λ want gap. gap ≡ Memory want };
 
-    fn from(_want: NoMemory) -> Gap {
-        Gap::Memory
+    fn from(want: NoMemory) -> Gap {
+        Gap::Memory(want)
     }
 }

@@ -57,7 +57,7 @@ fn size_of_number(records: &Records, types: &[Ty], number: u32) -> u32
 fn sum(n: u64, m: u32) -> Result<u64, NoMemory>
     ensures { IfOk result (λ s. s ≡ n + m) }
 {
-    n.checked_add(u64::from(m)).ok_or(NoMemory)
+    n.checked_add(u64::from(m)).ok_or(NoMemory::unearned())
 }
 
 /// The bytes of locals, and others before them.
@@ -118,7 +118,7 @@ fn global_bytes(p: &Typed, objects: &[Object], functions: &[Function]) -> Result
     }
     let bytes = texts_in_functions(bytes, functions);
     if bytes == u64::MAX {
-        Err(NoMemory)
+        Err(NoMemory::unearned())
     } else {
         Ok(bytes)
     }

@@ -14,7 +14,7 @@ use crate::troubles::{Trouble, earliest};
 use c_joining::{copy_of_name, next};
 use c_numbers::KeyTable;
 use c_typed::{Function, Object, Typed};
-use lay_base::{List, Name, NoMemory, Place, add};
+use lay_base::{List, Name, NoMemory, Place, add, copied};
 use std::alloc::Global;
 
 /// The key of a reference.
@@ -25,7 +25,7 @@ fn key_of(alloc: Global, reference: Reference) -> Result<Vec<u32>, NoMemory>
         Reference::Object(n) => [0, n],
         Reference::Function(f) => [1, f],
     };
-    Vec::from_slice(alloc, &key).map_err(|_| NoMemory)
+    copied(alloc, &key)
 }
 
 /// What is referred to, each once.

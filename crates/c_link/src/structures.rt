@@ -10,7 +10,7 @@ ghost use Rattle.c_types.specs.Views.{field_of, records_of, type_of};
 use crate::tree_uses::statement_types;
 use c_typed::{Function, Local, Object, Statement, Typed};
 use c_types::{Field, Record, Ty};
-use lay_base::{List, NoMemory, add};
+use lay_base::{List, NoMemory, add, push};
 use std::alloc::Global;
 
 fn lesser_of(best: Option<u32>, n: u32) -> Option<u32>
@@ -54,9 +54,7 @@ fn least_of_each(alloc: Global, count: u32, types: &[Ty]) -> Result<Vec<Option<u
 {
     let mut leasts = Vec::new(alloc);
     for t in types {
-        leasts
-            .push(least_among(count, None, t))
-            .map_err(|_| NoMemory)?;
+        push(&mut leasts, least_among(count, None, t))?;
     }
     Ok(leasts)
 }

@@ -10,7 +10,7 @@ Fails (TooBig at) r = r ≡ Err (Broken.too_big at)
 Fails (IllTyped rule at) r = r ≡ Err (Broken.ill_typed rule at)
 Fails (Undeclared x at) r = r ≡ Err (Broken.undeclared x at)
 Fails (Redeclared x at first) r = r ≡ Err (Broken.redeclared x at first)
-Fails Memory r = Unit {0}
+Fails (Memory want) r = Unit {0}
 
 abbrev pub Gives : {X Y : Type 0} → (X → Y) → Result X Fault → Answer Y → Type 0
 Gives view (Ok x) r = r ≡ Ok (view x)

@@ -15,13 +15,13 @@ pub enum Fault {
     Undeclared(Name, u32),
     /// A name that is declared a second time: where, and where first.
     Redeclared(Name, u32, u32),
-    Memory,
+    Memory(NoMemory),
 }
 
 impl From<NoMemory> for Fault {
-    ghost from_gives = { λ _ fault. fault ≡ Memory };
+    ghost from_gives = { λ want fault. fault ≡ Memory want };
 
-    fn from(_want: NoMemory) -> Fault {
-        Fault::Memory
+    fn from(want: NoMemory) -> Fault {
+        Fault::Memory(want)
     }
 }

@@ -13,7 +13,7 @@ use crate::fault::Fault;
 use crate::making::{node, pointer_to, way};
 use c_annotated::{Entity, Expression, ExpressionNode, PathNode, Thing};
 use c_types::{IntKind, Ty, copy};
-use lay_base::{Name, NoMemory, Place, Rule, boxed};
+use lay_base::{Name, NoMemory, Place, Rule, boxed, copied};
 use std::alloc::Global;
 
 /// What an operand of a type is that is not evaluated: it designates no object (C99 6.5.3.4).
@@ -58,10 +58,8 @@ fn entity(alloc: Global, at: Place, x: &[u8], it: &Entity) -> Result<Thing, Faul
 pub fn name(alloc: Global, x: &[u8]) -> Result<Name, NoMemory>
     ensures { IfOk result (λ it. it ≡ x.now) }
 {
-    match Vec::from_slice(alloc, x) {
-        Ok(bytes) => Ok(Name::of(bytes)),
-        Err(_) => Err(NoMemory),
-    }
+    let bytes = copied(alloc, x)?;
+    Ok(Name::of(bytes))
 }
 
 /// What a name designates, which stands at a place (C99 6.5.1).

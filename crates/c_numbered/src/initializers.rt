@@ -11,7 +11,7 @@ ghost use Rattle.c_typed.specs.Views.{expression_of, initializer_of, part_of, pa
 use crate::expressions::{operand, path};
 use c_numbers::TypeTable;
 use c_typed::{Expression, Initializer, InitializerPart, PartValue};
-use lay_base::{Boxed, Bytes, List, NoMemory, add, with_room};
+use lay_base::{Boxed, Bytes, List, NoMemory, add, copied, with_room};
 use std::alloc::Global;
 
 /// An expression, where there is one.
@@ -31,13 +31,11 @@ pub fn optional_expression(
     }
 }
 
-fn copied(alloc: Global, bytes: &Bytes) -> Result<Bytes, NoMemory>
+fn copy_of(alloc: Global, bytes: &Bytes) -> Result<Bytes, NoMemory>
     ensures { IfOk result (λ r. r ≡ bytes.now) }
 {
-    match Vec::from_slice(alloc, bytes.as_slice()) {
-        Ok(bytes) => Ok(Bytes::of(bytes)),
-        Err(_) => Err(NoMemory),
-    }
+    let bytes = copied(alloc, bytes.as_slice())?;
+    Ok(Bytes::of(bytes))
 }
 
 fn part_value(
@@ -57,7 +55,7 @@ fn part_value(
             Ok(PartValue::Record(p))
         }
         c_annotated::PartValue::Text(bytes) => {
-            let bytes = copied(alloc, bytes)?;
+            let bytes = copy_of(alloc, bytes)?;
             Ok(PartValue::Text(bytes))
         }
     }

@@ -14,7 +14,7 @@ use crate::expressions::operand;
 use crate::initializers::{optional_expression, optional_initializer};
 use c_numbers::TypeTable;
 use c_typed::{Arm, Expression, Statement};
-use lay_base::{Boxed, List, NoMemory, add, boxed, with_room};
+use lay_base::{Boxed, List, NoMemory, add, boxed, copied, with_room};
 use std::alloc::Global;
 
 type TestAndStep = (Option<Boxed<Expression>>, Option<Boxed<Expression>>);
@@ -35,13 +35,11 @@ fn test_and_step(
 }
 
 /// The numbers of locals, or the values of `case` labels.
-fn copied(alloc: Global, numbers: &List<u32>) -> Result<List<u32>, NoMemory>
+fn copy_of(alloc: Global, numbers: &List<u32>) -> Result<List<u32>, NoMemory>
     ensures { IfOk result (λ r. r ≡ numbers.now) }
 {
-    match Vec::from_slice(alloc, numbers.as_slice()) {
-        Ok(numbers) => Ok(List::of(numbers)),
-        Err(_) => Err(NoMemory),
-    }
+    let numbers = copied(alloc, numbers.as_slice())?;
+    Ok(List::of(numbers))
 }
 
 /// A statement with numbers of types.
@@ -59,7 +57,7 @@ pub fn numbered_statement(
             Ok(Statement::Do(e))
         }
         c_annotated::Statement::Block(locals, all) => {
-            let locals = copied(alloc, locals)?;
+            let locals = copy_of(alloc, locals)?;
             let all = statements(alloc, types, all.as_slice())?;
             Ok(Statement::Block(locals, all))
         }
@@ -89,14 +87,14 @@ pub fn numbered_statement(
             Ok(Statement::DoWhile(body, e))
         }
         c_annotated::Statement::For(locals, start, test, step, body) => {
-            let locals = copied(alloc, locals)?;
+            let locals = copy_of(alloc, locals)?;
             let (test, step) = test_and_step(alloc, types, test, step)?;
             let start = statements(alloc, types, start.as_slice())?;
             let body = inner(alloc, types, body)?;
             Ok(Statement::For(locals, start, test, step, body))
         }
         c_annotated::Statement::Switch(e, locals, all) => {
-            let locals = copied(alloc, locals)?;
+            let locals = copy_of(alloc, locals)?;
             let e = operand(alloc, types, e)?;
             let all = arms(alloc, types, all.as_slice())?;
             Ok(Statement::Switch(e, locals, all))
@@ -142,7 +140,7 @@ fn statements(
 fn arm(alloc: Global, types: &TypeTable, it: &c_annotated::Arm) -> Result<Arm, NoMemory>
     ensures { IfOk result (λ r. arm_of r ≡ numbered_arm types.now (noted_arm it.now)) }
 {
-    let cases = copied(alloc, &it.cases)?;
+    let cases = copy_of(alloc, &it.cases)?;
     let statements = statements(alloc, types, it.statements.as_slice())?;
     Ok(Arm {
         cases,

@@ -60,7 +60,7 @@ items_go done (suc n) m types others (t ∷ tokens) rest item d read h l z p o e
 -- an item that was not read
 pub items_fail : (failure : Failure) (done : List Trees.Item) (n : ℕ) (types : List (List ℕ)) (tokens : List Lexeme) (read : Option (List Trees.Item))
     → 0 < length tokens → 0 < n → Fails failure (item_in types 399 tokens) → with_front done (items_in 399 n types tokens) ≡ read → Fails failure read
-items_fail Memory done n types tokens read h z p e = tt
+items_fail (Memory want) done n types tokens read h z p e = tt
 items_fail (NoParse left) done n types tokens read h z p e = items_stop done n types tokens read h z p e
 
 -- ---- whether tokens are left

@@ -22,4 +22,4 @@ ParseGives tokens (Ok tree) = (tree.file ≡ tokens.file) × IsTreeOf tokens.byt
 ParseGives tokens (Err (F.NoParse place)) =
     IsPlaceIn tokens place × (first_unsupported tokens.list ≡ None) × ((items : List Trees.Item) → IsTreeOf tokens.bytes items → ⊥)
 ParseGives tokens (Err (F.Unsupported keyword place)) = (place.file ≡ tokens.file) × (first_unsupported tokens.list ≡ Some (keyword, place.at))
-ParseGives tokens (Err F.Memory) = Unit {0}
+ParseGives tokens (Err (F.Memory want)) = Unit {0}

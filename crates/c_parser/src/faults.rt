@@ -1,6 +1,6 @@
 //! Why a file has no tree.
 
-use lay_base::{Keyword, Place};
+use lay_base::{Keyword, NoMemory, Place};
 
 /// Why a file has no tree.
 #[derive(Clone, Copy)]
@@ -11,5 +11,5 @@ pub enum ParseFault {
     /// A keyword that is not supported, at its place.
     Unsupported(Keyword, Place),
     /// Memory is out.
-    Memory,
+    Memory(NoMemory),
 }

@@ -112,6 +112,6 @@ pub fn parse(alloc: Global, tokens: &Tokens) -> Result<Tree, ParseFault>
     match items_of(alloc, &mut cursor) {
         Ok(items) => Ok(Tree { file, items }),
         Err(Failure::NoParse(left)) => Err(ParseFault::NoParse(place_of(tokens, left))),
-        Err(Failure::Memory) => Err(ParseFault::Memory),
+        Err(Failure::Memory(want)) => Err(ParseFault::Memory(want)),
     }
 }

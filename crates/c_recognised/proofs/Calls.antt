@@ -1,6 +1,6 @@
 -- Calls that allocate records.
 use Rattle.std.proofs.Common.{◌≡◌, ℕ, ◌<◌, ◌≤◌, Bool, true, false, List, [], ◌∷◌, length, map, refl, ap, sym, ◌∙◌, arith, rules}
-use Rattle.std.specs.Prelude.{if◌then◌else◌, Option, Some, None, is_some}
+use Rattle.std.specs.Prelude.{if◌then◌else◌, IsTrue, Option, Some, None, is_some}
 use Rattle.lay_base.specs.declared.place.Place.{Place}
 use Rattle.c_types.specs.Views.{type_of}
 use Rattle.c_typed.specs.declared.operators.LibraryFunction.{LibraryFunction}
@@ -90,6 +90,18 @@ pub calloc_of_less : (r : ℕ) (all : List Expression) → length all < 2 → fa
 calloc_of_less r [] n = refl
 calloc_of_less r (y ∷ []) n = refl
 calloc_of_less r (y ∷ z ∷ more) n = absurd (omega (arith, n))
+
+-- where records are allocated there are as many arguments as the function has parameters
+pub malloc_has_one : (r : ℕ) (all : List Expression) → IsTrue (is_some (malloc_count r (listed all))) → length all ≡ 1
+malloc_has_one r [] h = cc
+malloc_has_one r (x ∷ []) h = refl
+malloc_has_one r (x ∷ y ∷ more) h = cc
+
+pub calloc_has_two : (r : ℕ) (all : List Expression) → IsTrue (is_some (calloc_count r (listed all))) → length all ≡ 2
+calloc_has_two r [] h = cc
+calloc_has_two r (x ∷ []) h = cc
+calloc_has_two r (x ∷ y ∷ []) h = refl
+calloc_has_two r (x ∷ y ∷ z ∷ more) h = cc
 
 any_some : (b : Bool) (x : Trees.OptionalExpression Noted) → b ≡ is_some (if b then Some x else None)
 any_some true x = refl

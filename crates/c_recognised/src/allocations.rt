@@ -1,11 +1,11 @@
 //! Conversions that are allocations of records or null pointers.
 
-ghost use Rattle.std.specs.Prelude.{◌≡◌, IfOk, OnOk, Some, is_some, map};
+ghost use Rattle.std.specs.Prelude.{◌≡◌, IfOk, IsTrue, OnOk, Some, is_some, map};
 ghost use Rattle.std.specs.Option.{option_map};
 ghost use Rattle.c_annotated.specs.Views.{expression_of, expressions_of, optional_of};
 ghost use Rattle.c_erasure.specs.Recognised.{allocation, is_null_constant};
 ghost use Rattle.c_recognised.specs.Calls.{by_call, calloc_count, malloc_count};
-ghost use Rattle.c_recognised.specs.Conversions.{allocated_by, became, reconverted};
+ghost use Rattle.c_recognised.specs.Conversions.{allocated_by, became, is_fit, may_allocate, reconverted};
 ghost use Rattle.c_annotated.specs.Nodes.{node_of};
 ghost use Rattle.c_types.specs.Sameness.{same_type};
 ghost use Rattle.c_types.specs.Types.{pointer, void};
@@ -61,11 +61,12 @@ fn malloc_count(
     r: u32,
     all: &mut List<Expression>,
 ) -> Result<Option<Boxed<Expression>>, NoMemory>
+    requires { IsTrue (is_some (malloc_count r (expressions_of (map expression_of all.old)))) }
     ensures { IfOk result (λ count. malloc_count r (expressions_of (map expression_of all.old)) ≡ Some (optional_of (option_map expression_of count))) }
 {
     match all.as_mut_vec().as_mut_slice() {
         [x] => counted(alloc, r, x),
-        _ => Err(NoMemory),
+        _ => unreachable!(),
     }
 }
 
@@ -75,14 +76,15 @@ fn calloc_count(
     r: u32,
     all: &mut List<Expression>,
 ) -> Result<Option<Boxed<Expression>>, NoMemory>
+    requires { IsTrue (is_some (calloc_count r (expressions_of (map expression_of all.old)))) }
     ensures { IfOk result (λ count. calloc_count r (expressions_of (map expression_of all.old)) ≡ Some (optional_of (option_map expression_of count))) }
 {
     match all.as_mut_vec().as_mut_slice() {
-        [x, y] if is_size(r, y) => {
+        [x, _] => {
             let x = as_unsigned(alloc, x)?;
             Ok(Some(x))
         }
-        _ => Err(NoMemory),
+        _ => unreachable!(),
     }
 }
 
@@ -93,6 +95,7 @@ fn by_call(
     which: LibraryFunction,
     all: &mut List<Expression>,
 ) -> Result<Allocation, NoMemory>
+    requires { IsTrue (is_some (by_call r which (expressions_of (map expression_of all.old)))) }
     ensures { IfOk result (λ a. by_call r which (expressions_of (map expression_of all.old)) ≡ Some (optional_of (option_map expression_of a.0), a.1)) }
 {
     match which {
@@ -104,17 +107,18 @@ fn by_call(
             let count = calloc_count(alloc, r, all)?;
             Ok((count, true))
         }
-        _ => Err(NoMemory),
+        _ => unreachable!(),
     }
 }
 
 /// What an expression that allocates records with a number allocates. There is no other expression for which it is asked.
 fn allocation(alloc: Global, r: u32, e: &mut Expression) -> Result<Allocation, NoMemory>
+    requires { IsTrue (is_some (allocation r (expression_of e.old))) }
     ensures { IfOk result (λ a. allocation r (expression_of e.old) ≡ Some (optional_of (option_map expression_of a.0), a.1)) }
 {
     match &mut e.node {
         ExpressionNode::Library(which, all) => by_call(alloc, r, *which, all),
-        _ => Err(NoMemory),
+        _ => unreachable!(),
     }
 }
 
@@ -148,7 +152,8 @@ enum Becomes {
 
 /// What a node of a type becomes, where its operands are done.
 fn conversion(node: &ExpressionNode, t: &Ty) -> Becomes
-    ensures { became result (node_of node.now) ≡ reconverted (type_of t.now) (node_of node.now) }
+    ensures became { became result (node_of node.now) ≡ reconverted (type_of t.now) (node_of node.now) }
+    ensures fit { IsTrue (is_fit result (node_of node.now)) }
 {
     match node {
         ExpressionNode::Convert(e, _) => match t {
@@ -176,6 +181,7 @@ fn put(node: &mut ExpressionNode, other: ExpressionNode)
 
 /// Makes a conversion that allocates records with a number an allocation. There is no other node for which it is asked.
 fn allocate(alloc: Global, r: u32, node: &mut ExpressionNode) -> Result<(), NoMemory>
+    requires { IsTrue (may_allocate r (node_of node.old)) }
     ensures { OnOk result (node_of node.new ≡ allocated_by r (node_of node.old)) }
 {
     match node {
@@ -184,7 +190,7 @@ fn allocate(alloc: Global, r: u32, node: &mut ExpressionNode) -> Result<(), NoMe
             put(node, ExpressionNode::Allocate(r, count, zeroed));
             Ok(())
         }
-        _ => Err(NoMemory),
+        _ => unreachable!(),
     }
 }
 

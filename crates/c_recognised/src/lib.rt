@@ -3,8 +3,6 @@
 //! It stands on `c_annotated`, whose trees it changes where they stand, and on the definitions of `c_erasure`. It promises that a tree then
 //! has a node for each allocation of records and for each null pointer constant that is converted to a pointer. It tells which `sizeof`s are
 //! size operands of allocations.
-//!
-//! Not said: that `NoMemory` comes for want of memory alone. It is answered too by functions for what allocates nothing, of which they are never asked.
 #![tactic(auto)]
 
 mod allocations;

@@ -1,6 +1,6 @@
 //! Which expressions are the size of one record, and how many records a number of bytes is.
 
-ghost use Rattle.std.specs.Prelude.{◌≡◌, IfOk, Some, false, is_some};
+ghost use Rattle.std.specs.Prelude.{◌≡◌, IfOk, IsTrue, Some, false, is_some};
 ghost use Rattle.std.specs.Option.{option_copied, option_map};
 ghost use Rattle.c_annotated.specs.Views.{expression_of, note_of, optional_of};
 ghost use Rattle.c_erasure.specs.Noted.{unconverted, value};
@@ -151,6 +151,7 @@ fn counted_from(
     r: u32,
     e: &mut Expression,
 ) -> Result<Option<Boxed<Expression>>, NoMemory>
+    requires { IsTrue (is_some (counted r (expression_of e.old))) }
     ensures { IfOk result (λ count. counted r (expression_of e.old) ≡ Some (optional_of (option_map expression_of count))) }
 {
     match &mut e.node {
@@ -163,10 +164,10 @@ fn counted_from(
                 let y = as_unsigned(alloc, y.get_mut())?;
                 Ok(Some(y))
             } else {
-                Err(NoMemory)
+                unreachable!()
             }
         }
-        _ => Err(NoMemory),
+        _ => unreachable!(),
     }
 }
 
@@ -177,6 +178,7 @@ pub fn counted(
     r: u32,
     e: &mut Expression,
 ) -> Result<Option<Boxed<Expression>>, NoMemory>
+    requires { IsTrue (is_some (counted r (unconverted (expression_of e.old)))) }
     ensures { IfOk result (λ count. counted r (unconverted (expression_of e.old)) ≡ Some (optional_of (option_map expression_of count))) }
 {
     match &mut e.node {

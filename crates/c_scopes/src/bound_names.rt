@@ -11,7 +11,7 @@ ghost use Rattle.c_scopes.specs.Places.{HasPlaces, is_defining};
 use crate::places::{Places, declared_at, defined_at, note};
 use c_annotated::{Bound, Entity, How};
 use indexmap::IndexMap;
-use lay_base::NoMemory;
+use lay_base::{NoMemory, reserve};
 use std::alloc::Global;
 use std::marker::Model;
 
@@ -74,7 +74,7 @@ fn bound_at(bounds: &[Bound], place: usize) -> Option<&Bound>
 }
 
 /// The place of a declaration, if it defines its name.
-fn definition_at(how: How, place: u32) -> Option<u32>
+fn definition_at(how: How, place: usize) -> Option<usize>
     ensures { result ≡ if is_defining how then Some place else None }
 {
     if how == How::Defines {
@@ -97,8 +97,8 @@ fn make_room(
     ensures room { OnOk result (vec_len bounds.new < vec_capacity bounds.new) }
     ensures unchanged { OnErr result (places.new.entries ≡ places.old.entries) }
 {
-    let place = u32::try_from(bounds.len()).map_err(|_| NoMemory)?;
-    bounds.reserve(1).map_err(|_| NoMemory)?;
+    let place = bounds.len();
+    reserve(bounds, 1)?;
     let definition = definition_at(b.how, place);
     note(places, alloc, b.name.as_slice(), place, definition)?;
     Ok(())
@@ -138,7 +138,7 @@ impl BoundNames {
             return first_among(&self.bounds, x);
         }
         match declared_at(&self.places, x) {
-            Some(place) => bound_at(&self.bounds, place as usize),
+            Some(place) => bound_at(&self.bounds, place),
             None => None,
         }
     }
@@ -149,7 +149,7 @@ impl BoundNames {
         ensures { option_map bound_of (option_copied result) ≡ defined_among (map bound_of self.now) x.now }
     {
         match defined_at(&self.places, x) {
-            Some(place) => bound_at(&self.bounds, place as usize),
+            Some(place) => bound_at(&self.bounds, place),
             None => None,
         }
     }
@@ -172,7 +172,7 @@ impl BoundNames {
         }
     }
 
-    /// Adds a name after the others, which may have it already. 2^32 names do not fit.
+    /// Adds a name after the others, which may have it already.
     pub fn add(&mut self, alloc: Global, b: Bound) -> Result<(), NoMemory>
         ensures added { OnOk result (self.new ≡ self.old ++ b ∷ []) }
         ensures unchanged { OnErr result (self.new ≡ self.old) }

@@ -7,18 +7,18 @@ ghost use Rattle.c_scopes.specs.SyntaxTags.Keys.{found_at};
 ghost use Rattle.c_scopes.specs.Places.{declared_at, defined_at};
 
 use indexmap::IndexMap;
-use lay_base::NoMemory;
+use lay_base::{NoMemory, copied, put};
 use std::alloc::Global;
 
 /// The places of the first declaration of a name, and of its first definition if it has one.
 #[derive(Clone, Copy)]
 pub struct Places {
-    pub declared: u32,
-    pub defined: Option<u32>,
+    pub declared: usize,
+    pub defined: Option<usize>,
 }
 
 /// Where a name is declared first.
-pub fn declared_at(places: &IndexMap<Vec<u8>, Places>, x: &[u8]) -> Option<u32>
+pub fn declared_at(places: &IndexMap<Vec<u8>, Places>, x: &[u8]) -> Option<usize>
     ensures { result ≡ declared_at places.now.entries x.now }
 {
     match places.get(x) {
@@ -28,7 +28,7 @@ pub fn declared_at(places: &IndexMap<Vec<u8>, Places>, x: &[u8]) -> Option<u32>
 }
 
 /// Where a name is defined first.
-pub fn defined_at(places: &IndexMap<Vec<u8>, Places>, x: &[u8]) -> Option<u32>
+pub fn defined_at(places: &IndexMap<Vec<u8>, Places>, x: &[u8]) -> Option<usize>
     ensures { result ≡ defined_at places.now.entries x.now }
 {
     match places.get(x) {
@@ -42,8 +42,8 @@ pub fn note(
     places: &mut IndexMap<Vec<u8>, Places>,
     alloc: Global,
     name: &[u8],
-    place: u32,
-    definition: Option<u32>,
+    place: usize,
+    definition: Option<usize>,
 ) -> Result<(), NoMemory>
     ensures declared { OnOk result ((x : List ℕ) →
         declared_at places.new.entries x ≡ or_else (declared_at places.old.entries x) (if bytes_eq name.now x then Some place else None)) }
@@ -55,9 +55,7 @@ pub fn note(
         declared: declared_at(places, name).unwrap_or(place),
         defined: defined_at(places, name).or(definition),
     };
-    let key = Vec::from_slice(alloc, name).map_err(|_| NoMemory)?;
-    match places.insert(key, known) {
-        Ok(_) => Ok(()),
-        Err(_) => Err(NoMemory),
-    }
+    let key = copied(alloc, name)?;
+    put(places, key, known)?;
+    Ok(())
 }

@@ -9,4 +9,4 @@ use Rattle.c_types.specs.Laying.{LayoutGives}
 
 pub refused : (it : Layout) (old : List Record) (r : Record) (fault : RecordFault) → LayoutGives it (Err fault) → AddGives it.size old r old (Err fault)
 refused it old r (TooBig n) h = (h.0, h.1, refl)
-refused it old r Memory h = (h, refl)
+refused it old r (Memory want) h = (h, refl)

@@ -9,4 +9,4 @@ use Rattle.c_types.specs.Limits.{greatest_size}
 abbrev pub AddGives : (size : ℕ) → (old : List Record) → Record → (new : List Record) → Result ℕ RecordFault → Type 0
 AddGives size old r new (Ok number) = (size ≤ greatest_size) × (number ≡ length old) × (new ≡ old ++ r ∷ [])
 AddGives size old r new (Err (TooBig n)) = (greatest_size < size) × (n ≡ min size (2 ^ 64 - 1)) × (new ≡ old)
-AddGives size old r new (Err Memory) = (size ≤ greatest_size) × (new ≡ old)
+AddGives size old r new (Err (Memory want)) = (size ≤ greatest_size) × (new ≡ old)

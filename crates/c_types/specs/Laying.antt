@@ -23,7 +23,7 @@ AreBounded known fields = All (λ f. size_in known (type_of f.ty) ≤ greatest_s
 abbrev pub LayoutGives : Layout → Result Layout RecordFault → Type 0
 LayoutGives it (Ok layout) = (layout ≡ it) × (it.size ≤ greatest_size)
 LayoutGives it (Err (TooBig size)) = (greatest_size < it.size) × (size ≡ min it.size (2 ^ 64 - 1))
-LayoutGives it (Err Memory) = it.size ≤ greatest_size
+LayoutGives it (Err (Memory want)) = it.size ≤ greatest_size
 
 -- a list of records with the layouts that are kept for it
 pub record AreLaid (records : List Record) (known : List Layout) : Type 0 where

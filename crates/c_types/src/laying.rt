@@ -109,12 +109,10 @@ pub fn layout_after(
     if size > GREATEST_SIZE {
         return Err(RecordFault::TooBig(size));
     }
-    match offsets(alloc, known, fields) {
-        Ok(offsets) => Ok(Layout {
-            offsets,
-            size: size as u32,
-            alignment,
-        }),
-        Err(NoMemory) => Err(RecordFault::Memory),
-    }
+    let offsets = offsets(alloc, known, fields).map_err(RecordFault::Memory)?;
+    Ok(Layout {
+        offsets,
+        size: size as u32,
+        alignment,
+    })
 }

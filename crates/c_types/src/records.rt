@@ -10,7 +10,7 @@ use crate::fault::RecordFault;
 use crate::laying::layout_after;
 use crate::layout::Layout;
 use crate::record::Record;
-use lay_base::List;
+use lay_base::{List, reserve};
 use std::alloc::Global;
 use std::marker::Model;
 
@@ -100,8 +100,11 @@ impl Records {
             Ok(layout) => layout,
             Err(fault) => return Err(fault),
         };
-        if self.records.reserve(1).is_err() || self.layouts.reserve(1).is_err() {
-            return Err(RecordFault::Memory);
+        if let Err(want) = reserve(&mut self.records, 1) {
+            return Err(RecordFault::Memory(want));
+        }
+        if let Err(want) = reserve(&mut self.layouts, 1) {
+            return Err(RecordFault::Memory(want));
         }
         let number = self.records.len() as u32;
         self.records.push_reserved(r);

@@ -1,5 +1,5 @@
 -- The parts of a unit, made stage by stage, are those of the definition.
-use Rattle.std.proofs.Common.{◌≡◌, ℕ, ◌+◌, Bool, true, List, [], ◌∷◌, ◌++◌, length, map, refl, sym, ap, ◌∙◌, append_assoc}
+use Rattle.std.proofs.Common.{◌≡◌, ℕ, ◌+◌, Bool, List, [], ◌∷◌, ◌++◌, length, map, refl, sym, ap, ◌∙◌, append_assoc}
 use Rattle.std.specs.Prelude.{drop, flat_map, Option, Some, None, is_some}
 use Rattle.std.specs.Option.{option_map}
 use Rattle.std.proofs.lemmas.List.{append-nil, map-append}
@@ -12,7 +12,7 @@ use Rattle.c_typed.specs.Programs.{FunctionData, UnitData}
 use Rattle.c_typed.specs.Trees as Trees
 use Rattle.c_typed.specs.declared.program.Local.{Local}
 use Rattle.c_typed.specs.declared.program.Object.{Object}
-use Rattle.c_typed.specs.Walk.{types_in_initializer, types_in_statement}
+use Rattle.c_typed.specs.Walk.{types_in_statement}
 use Rattle.c_erasure.specs.InitialMentions.{told_by_initial}
 use Rattle.c_erasure.specs.Noted.{Noted}
 use Rattle.c_erasure.specs.Scopes.{AFunction, ALocal, AMention, AnObject, FileScope}

@@ -132,7 +132,7 @@ fn next(number: u32) -> Result<u32, NoMemory>
 {
     match number.checked_add(1) {
         Some(n) => Ok(n),
-        None => Err(NoMemory),
+        None => Err(NoMemory::unearned()),
     }
 }
 
@@ -142,7 +142,7 @@ fn count(all: &[c_annotated::Local]) -> Result<u32, NoMemory>
 {
     match u32::try_from(all.len()) {
         Ok(n) => Ok(n),
-        Err(_) => Err(NoMemory),
+        Err(_) => Err(NoMemory::unearned()),
     }
 }
 

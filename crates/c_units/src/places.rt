@@ -16,13 +16,13 @@ use c_annotated::{Function, Statement};
 use c_numbers::KeyTable;
 use c_recognised::operands_in_statement;
 use c_walks::{Nodes, walk_statement};
-use lay_base::{List, NoMemory};
+use lay_base::{List, NoMemory, copied};
 use std::alloc::Global;
 
 fn key(alloc: Global, number: u32) -> Result<Vec<u32>, NoMemory>
     ensures { IfOk result (λ key. key.items ≡ number ∷ []) }
 {
-    Vec::from_slice(alloc, &[number]).map_err(|_| NoMemory)
+    copied(alloc, &[number])
 }
 
 /// A table of numbers.

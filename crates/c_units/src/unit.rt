@@ -22,7 +22,7 @@ use c_numbers::TypeTable;
 use c_scopes::{FileScope, Tags};
 use c_typed::Unit;
 use c_types::{Records, Ty};
-use lay_base::{List, Name, NoMemory};
+use lay_base::{List, Name, NoMemory, split_off};
 use std::alloc::Global;
 
 /// What a file declares, with allocations and null pointers recognised in its trees, and of which types it speaks.
@@ -110,10 +110,8 @@ fn incomplete(tags: Tags, complete: u32) -> Result<List<Name>, NoMemory>
 {
     let mut names = tags.into_structures();
     let at = (complete as usize).min(names.len());
-    match names.split_off(at) {
-        Ok(rest) => Ok(List::of(rest)),
-        Err(_) => Err(NoMemory),
-    }
+    let rest = split_off(&mut names, at)?;
+    Ok(List::of(rest))
 }
 
 /// What a file declares by the numbers of its types.

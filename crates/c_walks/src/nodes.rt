@@ -5,7 +5,7 @@ ghost use Rattle.c_types.specs.Views.{type_of};
 ghost use Rattle.c_walks.specs.NodeTypes.{taken_in, types_found};
 
 use c_types::Ty;
-use lay_base::{List, NoMemory, add};
+use lay_base::{List, NoMemory, add, push};
 use std::alloc::Global;
 
 /// What stands at nodes, in the order of the text: their types, and the locals of which the address is taken.
@@ -32,10 +32,7 @@ impl<'a> Nodes<'a> {
         ensures types { OnOk result (types_found self.new ≡ types_found self.old ++ type_of t.entry.now ∷ []) }
         ensures taken { OnOk result (taken_in self.new ≡ taken_in self.old) }
     {
-        match self.types.push(t) {
-            Ok(()) => Ok(()),
-            Err(_) => Err(NoMemory),
-        }
+        push(&mut self.types, t)
     }
 
     #[tactic(auto, unfolding(crate::specs::NodeTypes::types_found))]

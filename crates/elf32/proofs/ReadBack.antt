@@ -5,6 +5,7 @@ use Rattle.std.specs.Prelude.{not}
 use Rattle.std.specs.List.{list_any}
 use Rattle.std.proofs.lemmas.Bool.{le-ltb}
 use Rattle.std.proofs.lemmas.List.{length-append}
+use Rattle.lay_base.specs.Want.{no_memory}
 use Rattle.rv_isa.specs.declared.image.Image.{Image}
 use Rattle.rv_isa.specs.declared.image.Segment.{Segment}
 use Rattle.elf32.specs.declared.header.ProgramHeader.{ProgramHeader}
@@ -327,7 +328,7 @@ read_back image writable = again image.entry image.segments writable.entry writa
 
 -- so what the reader may answer for it is the image, or want of memory
 pub read_again : (image : Image) (answer : Result Image ElfFault) → IsWritable image → ReadGives answer (loaded (elf_file image))
-    → (answer ≡ Ok image) ⊎ (answer ≡ Err Memory)
+    → (answer ≡ Ok image) ⊎ (answer ≡ Err (Memory no_memory))
 read_again image (Ok found) writable gives = inl (let is = read_back image writable in cc)
-read_again image (Err Memory) writable gives = inr refl
+read_again image (Err (Memory want)) writable gives = inr refl
 read_again image (Err (BadElf field found)) writable gives = let is = read_back image writable in cc

@@ -84,7 +84,7 @@ unfolding loaded
 fault_read bytes fault refused = refused_fault (first_refusal (tests bytes)) (image_of bytes) fault refused
   where
     refused_fault : (r : Option Test) (image : Image) (fault : ElfFault) → unless_fault r ≡ Err fault → ReadGives (Err fault) (unless_refused r image)
-    refused_fault r image Memory is = tt
+    refused_fault r image (Memory want) is = tt
     refused_fault None image (BadElf field found) is = cc
     refused_fault (Some t) image (BadElf field found) is = cc
 
@@ -107,7 +107,7 @@ number_refused bytes fault header refused =
 pub loads_refused : (bytes : List ℕ) (fault : ElfFault) → tested (take 10 (file_tests bytes)) ≡ Ok tt → LoadableGives (Err fault) bytes
     → ReadGives (Err fault) (loaded bytes)
 loads_refused bytes (BadElf field found) header gives = number_refused bytes (BadElf field found) header gives
-loads_refused bytes Memory header gives = tt
+loads_refused bytes (Memory want) header gives = tt
 
 -- the tests of the file pass
 pub record FilePasses (bytes : List ℕ) : Type 0 where

@@ -15,7 +15,7 @@ use Rattle.elf32.specs.Loaded.{Test, file_tests, first_refusal}
 abbrev pub ReadGives : Result Image ElfFault → Result Image (ElfField × ℕ) → Type 0
 ReadGives (Ok image) loads = loads ≡ Ok image
 ReadGives (Err (BadElf field found)) loads = loads ≡ Err (field, found)
-ReadGives (Err Memory) loads = Unit {0}
+ReadGives (Err (Memory want)) loads = Unit {0}
 
 -- ---- parts of the reader
 
@@ -43,4 +43,4 @@ pub record AreLoadable (hs : List ProgramHeader) (bytes : List ℕ) : Type 0 whe
 abbrev pub LoadableGives : Result (Vec ProgramHeader) ElfFault → List ℕ → Type 0
 LoadableGives (Ok headers) bytes = AreLoadable headers.items bytes
 LoadableGives (Err (BadElf field found)) bytes = tested (drop 10 (file_tests bytes)) ≡ Err (BadElf field found)
-LoadableGives (Err Memory) bytes = Unit {0}
+LoadableGives (Err (Memory want)) bytes = Unit {0}

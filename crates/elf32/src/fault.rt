@@ -1,6 +1,9 @@
 //! Why bytes are refused as an ELF32 file.
 
-use lay_base::ElfField;
+ghost use Rattle.std.specs.Prelude.{◌≡◌};
+ghost use Rattle.elf32.specs.declared.fault.ElfFault.TheVariants.{Memory};
+
+use lay_base::{ElfField, NoMemory};
 use thiserror::Error;
 
 /// Why bytes are not read as an image.
@@ -11,5 +14,13 @@ pub enum ElfFault {
     BadElf(ElfField, u64),
     /// No memory was left.
     #[error("out of memory")]
-    Memory,
+    Memory(NoMemory),
+}
+
+impl From<NoMemory> for ElfFault {
+    ghost from_gives = { λ want fault. fault ≡ Memory want };
+
+    fn from(want: NoMemory) -> ElfFault {
+        ElfFault::Memory(want)
+    }
 }

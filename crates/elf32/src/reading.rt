@@ -3,6 +3,7 @@
 ghost use Rattle.std.specs.Prelude.{◌≡◌, ◌+◌, ◌*◌, ◌^◌, ◌<◌, ◌≤◌, ◌⊎◌, List as Sequence, [], ◌∷◌, ◌++◌, Result, Ok, Err, IfOk, OnOk, length, map, sum_by, take};
 ghost use Rattle.std.specs.List.{All, list_any};
 ghost use Rattle.rv_isa.specs.Placed.{IsPlaced};
+ghost use Rattle.lay_base.specs.Want.{no_memory};
 ghost use Rattle.elf32.specs.Header.{headers_offset, header_count, loadable};
 ghost use Rattle.elf32.specs.Loaded.{file_tests, last_tests, loaded, meets, segment_of, segment_tests, segments_tests, test, wants};
 ghost use Rattle.elf32.specs.Written.{IsWritable, elf_file};
@@ -13,7 +14,7 @@ use crate::header::{
     CURRENT, EXECUTABLE, FILE_HEADER, LOAD, PROGRAM_HEADER, ProgramHeader, RISC_V, entry, half_at,
     header_at, header_count, header_size, headers_offset, word_at,
 };
-use lay_base::{Bytes, ElfField, List, NoMemory};
+use lay_base::{Bytes, ElfField, List, NoMemory, add, copied, push};
 use rv_isa::{Image, Segment};
 use std::alloc::Global;
 
@@ -96,7 +97,7 @@ impl FirstHeaders {
         ensures first { OnOk result ((hs : Sequence ProgramHeader) → HasFirst self.old hs → HasFirst self.new (hs ++ header ∷ [])) }
     {
         if self.count < MOST_SEGMENTS {
-            self.first.push(header).map_err(|_| NoMemory)?;
+            push(&mut self.first, header)?;
         }
         self.count += 1;
         Ok(())
@@ -129,7 +130,7 @@ fn loadable(alloc: Global, bytes: &[u8]) -> Result<Vec<ProgramHeader>, ElfFault>
     requires table { headers_offset bytes.now + 32 * header_count bytes.now ≤ length bytes.now }
     ensures { LoadableGives result bytes.now }
 {
-    let FirstHeaders { count, first } = first_loadable(alloc, bytes).map_err(|_| ElfFault::Memory)?;
+    let FirstHeaders { count, first } = first_loadable(alloc, bytes)?;
     test(ElfField::Loads, count == 0 || count > MOST_SEGMENTS, count)?;
     Ok(first)
 }
@@ -218,7 +219,7 @@ fn segment_of(alloc: Global, bytes: &[u8], header: &ProgramHeader) -> Result<Seg
         at: header.address,
         size: header.memory_size,
         flags: (header.flags % 256) as u8,
-        bytes: Bytes::of(piece.to_vec(alloc).map_err(|_| NoMemory)?),
+        bytes: Bytes::of(copied(alloc, piece)?),
     })
 }
 
@@ -233,7 +234,7 @@ fn segments(
     let mut segments = List::new(alloc);
     for header in headers {
         let segment = segment_of(alloc, bytes, header)?;
-        segments.push(segment).map_err(|_| NoMemory)?;
+        add(&mut segments, segment)?;
     }
     Ok(segments)
 }
@@ -251,7 +252,7 @@ pub fn read(alloc: Global, bytes: &[u8]) -> Result<Image, ElfFault>
     let headers = loadable(alloc, bytes)?;
     segments_tests(bytes.len() as u64, &headers)?;
     last_tests(bytes, &headers)?;
-    let segments = segments(alloc, bytes, &headers).map_err(|_| ElfFault::Memory)?;
+    let segments = segments(alloc, bytes, &headers)?;
     Ok(Image {
         entry: entry(bytes),
         segments,
@@ -262,5 +263,5 @@ pub fn read(alloc: Global, bytes: &[u8]) -> Result<Image, ElfFault>
 /// image or want of memory, and nothing else.
 pub fn files_are_read_back()
     ensures { (image : Image) (answer : Result Image ElfFault) → IsWritable image → ReadGives answer (loaded (elf_file image))
-        → (answer ≡ Ok image) ⊎ (answer ≡ Err ElfFault.Memory) }
+        → (answer ≡ Ok image) ⊎ (answer ≡ Err (ElfFault.Memory no_memory)) }
 {}

@@ -6,8 +6,7 @@ ghost use Rattle.elf32.specs.Written.{AreInPlace, IsWritable, elf_file, file_hea
 ghost use Rattle.elf32.specs.Written.{page_up as next_page, program_header as program_header_bytes, word as word_bytes, zeros};
 
 use crate::header::{CURRENT, EXECUTABLE, FILE_HEADER, LOAD, PROGRAM_HEADER, RISC_V};
-use byteorder::{LittleEndian, WriteBytesExt};
-use lay_base::NoMemory;
+use lay_base::{NoMemory, append, resize, with_capacity};
 use rv_isa::{Image, Segment};
 use std::alloc::Global;
 
@@ -20,19 +19,19 @@ const PAGE: u32 = 0x1000;
 fn bytes(out: &mut Vec<u8>, piece: &[u8]) -> Result<(), NoMemory>
     ensures { OnOk result (out.new.items ≡ out.old.items ++ piece.now) }
 {
-    out.extend_from_slice(piece).map_err(|_| NoMemory)
+    append(out, piece)
 }
 
 fn half(out: &mut Vec<u8>, n: u16) -> Result<(), NoMemory>
     ensures { OnOk result (out.new.items ≡ out.old.items ++ half_bytes n) }
 {
-    out.write_u16::<LittleEndian>(n).map_err(|_| NoMemory)
+    append(out, &n.to_le_bytes())
 }
 
 fn word(out: &mut Vec<u8>, n: u32) -> Result<(), NoMemory>
     ensures { OnOk result (out.new.items ≡ out.old.items ++ word_bytes n) }
 {
-    out.write_u32::<LittleEndian>(n).map_err(|_| NoMemory)
+    append(out, &n.to_le_bytes())
 }
 
 /// Zeros up to an offset in the file.
@@ -41,7 +40,7 @@ fn pad_to(out: &mut Vec<u8>, offset: u32) -> Result<(), NoMemory>
     ensures padded { OnOk result (out.new.items ≡ out.old.items ++ zeros (offset - length out.old.items)) }
     ensures reached { OnOk result (length out.new.items ≡ offset) }
 {
-    out.resize(offset as usize, 0).map_err(|_| NoMemory)
+    resize(out, offset as usize, 0)
 }
 
 /// The file header of an executable for RISC-V. Its program headers stand after it; it has no
@@ -103,7 +102,7 @@ fn file(
 {
     let data_offset = PAGE + page_up(text.bytes.len() as u32);
     let size = data_offset as usize + globals.bytes.len();
-    let mut out = Vec::with_capacity(alloc, size).map_err(|_| NoMemory)?;
+    let mut out = with_capacity(alloc, size)?;
     file_header(&mut out, entry, 4)?;
     program_header(&mut out, PAGE, text)?;
     program_header(&mut out, data_offset, globals)?;

@@ -41,7 +41,7 @@ fn put_of_program(out: &mut Writer, alloc: Global, row: &Row, files: &[File], pr
 /// Whether each file has its unit, though they are no program.
 fn has_units(fault: &CompileFault) -> bool {
     match fault {
-        CompileFault::Joining(gap) => !matches!(gap, Gap::Memory),
+        CompileFault::Joining(gap) => !matches!(gap, Gap::Memory(_)),
         _ => false,
     }
 }

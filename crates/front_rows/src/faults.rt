@@ -54,7 +54,7 @@ fn put_lexical(out: &mut Writer, spots: Spots<'_>, file: u16, fault: LexFault) {
         LexFault::BadLiteral(at) => ("BadLiteral", at),
         LexFault::Unclosed(at) => ("Unclosed", at),
         LexFault::TooWide(at) => ("TooWide", at),
-        LexFault::Memory => return out.word("out of memory"),
+        LexFault::Memory(_) => return out.word("out of memory"),
     };
     out.word(word);
     put_place(out, spots, Place { file, at });
@@ -69,7 +69,7 @@ fn put_syntactic(out: &mut Writer, spots: Spots<'_>, fault: ParseFault) {
             out.bytes(keyword_text(keyword));
             put_place(out, spots, place);
         }
-        ParseFault::Memory => out.word("out of memory"),
+        ParseFault::Memory(_) => out.word("out of memory"),
     }
 }
 
@@ -91,7 +91,7 @@ fn put_of_types(out: &mut Writer, spots: Spots<'_>, fault: &CheckFault) {
         CheckFault::Redeclared(name, place, first) => {
             put_again(out, "Redeclared", name, spots, [*place, *first]);
         }
-        CheckFault::Memory => out.word("out of memory"),
+        CheckFault::Memory(_) => out.word("out of memory"),
     }
 }
 
@@ -120,7 +120,7 @@ fn put_gap(out: &mut Writer, spots: Spots<'_>, gap: &Gap) {
             out.value(&passed.which);
             out.number(passed.counted);
         }
-        Gap::Memory => out.word("out of memory"),
+        Gap::Memory(_) => out.word("out of memory"),
     }
 }
 
@@ -131,6 +131,6 @@ pub fn put_fault(out: &mut Writer, spots: Spots<'_>, fault: &CompileFault) {
         CompileFault::Syntax(fault) => put_syntactic(out, spots, *fault),
         CompileFault::Types(fault) => put_of_types(out, spots, fault),
         CompileFault::Joining(gap) => put_gap(out, spots, gap),
-        CompileFault::Memory => out.word("out of memory"),
+        CompileFault::Memory(_) => out.word("out of memory"),
     }
 }

@@ -72,6 +72,6 @@ pub fn put_report(
             out.add(b"\n");
             out.add(text.as_slice());
         }
-        Err(NoMemory) => out.word("out of memory"),
+        Err(_) => out.word("out of memory"),
     }
 }

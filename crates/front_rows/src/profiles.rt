@@ -8,7 +8,7 @@ use crate::answers::are_within_bounds;
 use crate::faults::{Spots, put_fault};
 use crate::plans::put_report;
 use c_typed::{Counts, Function, Typed, loops_within, profile_order};
-use lay_base::{File, Files, NoMemory, Stale};
+use lay_base::{File, Files, Stale};
 use lay_compile::front;
 use profile_file::{ProfileFault, fits, read, write};
 use row_lines::{Writer, head_of, is_comment};
@@ -62,7 +62,7 @@ fn put_refusal(out: &mut Writer, fault: &ProfileFault) {
             out.word("BadProfile at line");
             out.number(u64::from(*line));
         }
-        ProfileFault::Memory => out.word("out of memory"),
+        ProfileFault::Memory(_) => out.word("out of memory"),
     }
 }
 
@@ -93,7 +93,7 @@ fn put_line(out: &mut Writer, alloc: Global, text: &[u8])
     match read(alloc, text) {
         Ok(_) => out.word("read"),
         Err(ProfileFault::BadProfile(line)) => out.number(u64::from(line)),
-        Err(ProfileFault::Memory) => out.word("out of memory"),
+        Err(ProfileFault::Memory(_)) => out.word("out of memory"),
     }
 }
 
@@ -132,7 +132,7 @@ fn put_fit(out: &mut Writer, alloc: Global, counts: &Counts, program: &Typed) {
             Ok(()) => out.word("fits"),
             Err(difference) => put_difference(out, &difference),
         },
-        Err(NoMemory) => out.word("no memory"),
+        Err(_) => out.word("no memory"),
     }
 }
 

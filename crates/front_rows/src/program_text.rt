@@ -9,7 +9,7 @@ use c_types::{Field, Record, Ty};
 use lay_base::{List, Place};
 use lay_compile::{Reference, references_by_statement};
 use row_lines::Writer;
-use std::alloc::{AllocError, Global};
+use std::alloc::Global;
 
 fn put_place(out: &mut Writer, place: Place) {
     out.number(u64::from(place.file));

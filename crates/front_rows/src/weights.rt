@@ -51,7 +51,7 @@ fn put_records(out: &mut Writer, alloc: Global, w: &Weights, records: &[Record])
             u32::try_from(fields.len()).unwrap_or(u32::MAX),
         ) {
             Ok(weights) => put_fields(out, &weights, fields),
-            Err(NoMemory) => out.word("out of memory"),
+            Err(_) => out.word("out of memory"),
         }
         number = number.saturating_add(1);
     }
@@ -64,6 +64,6 @@ pub fn put_weights(out: &mut Writer, alloc: Global, program: &Typed) {
     }
     match weights_of(alloc, program) {
         Ok(w) => put_records(out, alloc, &w, program.records.as_slice()),
-        Err(NoMemory) => out.word("out of memory"),
+        Err(_) => out.word("out of memory"),
     }
 }

@@ -28,7 +28,7 @@ ReadGives before now files name limit (Ok bytes) =
 ReadGives before now files name limit (Err TooLong) =
     IfKnown files name (λ file. (now ≡ before) × ((bytes : List ℕ) × (file ≡ Some bytes) × (limit < length bytes)))
 ReadGives before now files name limit (Err Failed) = Rose before now
-ReadGives before now files name limit (Err Memory) = ⊤
+ReadGives before now files name limit (Err (Memory want)) = ⊤
 
 -- the name holds the bytes; the write failed, and the name is as before or holds some first part
 -- of them; or memory was out, and nothing changed
@@ -36,5 +36,5 @@ abbrev pub WriteGives : (before now : ℕ) (old new : Option Contents) (name byt
 WriteGives before now old new name bytes (Ok done) = IfKnown new name (λ file. file ≡ Some bytes)
 WriteGives before now old new name bytes (Err W.Failed) =
     Rose before now × IfKnown old name (λ was. IfKnown new name (λ file. (file ≡ was) ⊎ ((k : ℕ) × (file ≡ Some (take k bytes)))))
-WriteGives before now old new name bytes (Err W.Memory) =
+WriteGives before now old new name bytes (Err (W.Memory want)) =
     IfKnown old name (λ was. (now ≡ before) × IfKnown new name (λ file. file ≡ was))

@@ -2,7 +2,7 @@
 
 ghost use Rattle.std.specs.Prelude.{◌≡◌, length, IfOk};
 
-use crate::no_memory::NoMemory;
+use crate::no_memory::{NoMemory, copied};
 use std::alloc::Global;
 use std::marker::Model;
 
@@ -32,10 +32,8 @@ impl Name {
     pub fn copy_of(alloc: Global, text: &str) -> Result<Name, NoMemory>
         ensures { IfOk result (λ name. name ≡ text.now) }
     {
-        match Vec::from_slice(alloc, text.as_bytes()) {
-            Ok(bytes) => Ok(Name { bytes }),
-            Err(_) => Err(NoMemory),
-        }
+        let bytes = copied(alloc, text.as_bytes())?;
+        Ok(Name { bytes })
     }
 
     /// The bytes, lent.

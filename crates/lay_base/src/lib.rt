@@ -7,7 +7,6 @@
 //! Neither proved nor tested: the text of `Debug`, and that memory is ever left. Trusted: the toolchain, and std's statements on vectors and boxes.
 #![tactic(auto)]
 
-mod building;
 mod bytes;
 mod faults;
 mod keywords;
@@ -20,7 +19,6 @@ mod place;
 mod shared_value;
 mod value_box;
 
-pub use building::{add, boxed, shared, with_room};
 pub use bytes::{Bytes, Name};
 pub use faults::{
     ElfField, Keyword, LimitKind, RoomKind, Rule, Stale, StaleKind, TrapKind, UndefinedKind,
@@ -28,7 +26,11 @@ pub use faults::{
 pub use keywords::{keyword_of, keyword_text};
 pub use list::List;
 pub use memory_objects::{MemHost, MemSink, MemSource};
-pub use no_memory::NoMemory;
+pub use no_memory::{
+    NoMemory, add, append, arguments, boxed, buffered, copied, filled, insert_at, push, put,
+    put_key, read_at_most, reserve, resize, shared, short_copy, split_off, with_capacity,
+    with_room,
+};
 pub use operators::{divide, remain, shift_left, shift_right};
 pub use outside::{Host, HostRead, HostWrite, Sink, SinkFault, Source, SourceFault};
 pub use place::{File, Files, Place};

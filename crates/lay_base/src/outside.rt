@@ -7,6 +7,8 @@ ghost use Rattle.std.specs.Prelude.{◌≡◌, ◌≤◌, ℕ, List, Option, IsO
 ghost use Rattle.lay_base.specs.Calls.{NextGives, PutGives, ReadGives, WriteGives};
 ghost use Rattle.lay_base.specs.Known.{Contents, FilesKeep, FilesKeepBut, Raises};
 
+use crate::no_memory::NoMemory;
+
 /// A source failed to give a byte.
 #[derive(Clone, Copy, PartialEq, Eq)]
 pub struct SourceFault;
@@ -23,7 +25,7 @@ pub enum HostRead {
     /// There is no such file, or it could not be read.
     Failed,
     /// No memory was left for the bytes.
-    Memory,
+    Memory(NoMemory),
 }
 
 /// Why a host did not write a file.
@@ -32,7 +34,7 @@ pub enum HostWrite {
     /// The file could not be written, or only a first part of it.
     Failed,
     /// No memory was left, and nothing was written.
-    Memory,
+    Memory(NoMemory),
 }
 
 /// Where bytes come from, one at a time.

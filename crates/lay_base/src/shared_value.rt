@@ -52,7 +52,7 @@ impl<T: Drop> Shared<T> {
     {
         match self.inner.clone() {
             Ok(inner) => Ok(Shared { inner }),
-            Err(_) => Err(NoMemory),
+            Err(_) => Err(NoMemory::unearned()),
         }
     }
 }

@@ -39,7 +39,7 @@ module _ (c : Compilation) (f0 f1 : Option Contents) (reads0 reads1 writes0 writ
       → CompileGives c (outside f0 reads0 writes0 input reported) (outside f1 reads1 writes1 input reported) (Err refusal)
   outputs_refused reported name first (R.NotBuilt other) gives =
       (first ∙ ap Some (sym gives.0), were _ gives.1, record { files = kept; input = refl; out = refl })
-  outputs_refused reported name first R.Memory gives = inl (record { files = kept; input = refl; out = refl })
+  outputs_refused reported name first (R.Memory want) gives = inl (record { files = kept; input = refl; out = refl })
   outputs_refused reported name first _ gives = absurd gives
 
   -- its ELF file is written or not: these are the host's files after it
@@ -67,7 +67,7 @@ module _ (c : Compilation) (f0 f1 : Option Contents) (reads0 reads1 writes0 writ
       unreported = refl;
       unread = refl;
     })
-    write_refused reported R.Memory same gives = inl (record { files = keep_then_same c.out f0 f1 f2 kept but gives; input = refl; out = refl })
+    write_refused reported (R.Memory want) same gives = inl (record { files = keep_then_same c.out f0 f1 f2 kept but gives; input = refl; out = refl })
     write_refused reported _ same gives = absurd gives
 
     compiled_to : (was now : Stream) (Reported : List ℕ → Type 0) → Reported report → IfKnown f2 c.out (λ file. file ≡ Some elf)

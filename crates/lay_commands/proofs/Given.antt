@@ -45,7 +45,7 @@ module _ (c : Compilation) (f0 f1 : Option Contents) (reads0 reads1 writes0 writ
   pub unread : (refusal : Refusal) → FilesGive reads0 reads1 f0 c.files (Err refusal) → IsRefused c before now refusal
   unread (R.FileFault name) gives = inl (gives.0, gives.1, untouched)
   unread (R.TooLong name) gives = inl (gives.0, gives.1, untouched)
-  unread R.Memory gives = inl untouched
+  unread (R.Memory want) gives = inl untouched
   unread _ gives = absurd gives
 
 -- ---- the files are read, and the profile is not
@@ -73,7 +73,7 @@ module _ (c : Compilation) (f0 f1 f2 : Option Contents) (reads0 reads1 reads2 wr
     (gives.0, readable f0 c.files read are, known_before f0 f1 name _ first (rw (same name) at gives.1)),
     left,
   )
-  by_name name named R.Memory gives = inl left
+  by_name name named (R.Memory want) gives = inl left
   by_name name named _ gives = absurd gives
 
   pub profile_unread : (profile : Option (List ℕ)) → c.profile ≡ profile → (refusal : Refusal) → ProfileBytesGive reads1 reads2 f1 profile (Err refusal)
@@ -124,7 +124,7 @@ module _ (c : Compilation) (f0 f1 f2 : Option Contents) (reads0 reads1 reads2 wr
     ),
     unchanged,
   )
-  named_refused name named bytes gives R.Memory none = inl unchanged
+  named_refused name named bytes gives (R.Memory want) none = inl unchanged
   named_refused name named bytes gives _ none = absurd none
 
   pub counts_refused : (profile : Option (List ℕ)) → c.profile ≡ profile → (bytes : Option (Vec ℕ)) → ProfileBytesGive reads1 reads2 f1 profile (Ok bytes)
@@ -156,7 +156,7 @@ pub bytes_have_none : (f : Option Contents) (names : List (List ℕ)) (texts : P
 bytes_have_none f names texts reads0 reads1 f1 None refusal gives = absurd gives
 bytes_have_none f names texts reads0 reads1 f1 (Some name) (R.FileFault other) gives = λ place. cc
 bytes_have_none f names texts reads0 reads1 f1 (Some name) (R.TooLong other) gives = λ place. cc
-bytes_have_none f names texts reads0 reads1 f1 (Some name) R.Memory gives = λ place. cc
+bytes_have_none f names texts reads0 reads1 f1 (Some name) (R.Memory want) gives = λ place. cc
 bytes_have_none f names texts reads0 reads1 f1 (Some name) _ gives = absurd gives
 
 pub counts_have_none : (f : Option Contents) (names : List (List ℕ)) (texts : PlaceTexts) (bytes : Option (Vec ℕ)) (p : ProgramData) (refusal : Refusal)
@@ -164,7 +164,7 @@ pub counts_have_none : (f : Option Contents) (names : List (List ℕ)) (texts : 
 counts_have_none f names texts None p refusal gives = absurd gives
 counts_have_none f names texts (Some bytes) p (R.BadProfile line) gives = λ place. cc
 counts_have_none f names texts (Some bytes) p (R.Stale function difference) gives = λ place. cc
-counts_have_none f names texts (Some bytes) p R.Memory gives = λ place. cc
+counts_have_none f names texts (Some bytes) p (R.Memory want) gives = λ place. cc
 counts_have_none f names texts (Some bytes) p _ gives = absurd gives
 
 -- ---- functions and loops of a program

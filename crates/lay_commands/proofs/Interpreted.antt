@@ -5,6 +5,7 @@ use Rattle.c_typed.specs.declared.run_counts.counts.Counts.{Counts}
 use Rattle.c_link.specs.Programs.{IsProgramOf}
 use Rattle.c_typed.specs.Programs.{ProgramData}
 use Rattle.lay_base.specs.Known.{Contents, IfKnown, FilesKeep, FilesKeepBut}
+use Rattle.lay_base.specs.Want.{no_memory}
 use Rattle.lay_base.specs.declared.place.File.{File}
 use Rattle.profile_file.specs.Text.{profile_text}
 use Rattle.refusals.specs.declared.refusal.Refusal.{Refusal}
@@ -31,7 +32,7 @@ tells_source (E.TurnLimit turns) r (inl e) = rw e tt
 tells_source (E.Room what counted) r (inl e) = rw e tt
 tells_source E.ReadFault r (inl e) = rw e tt
 tells_source E.WriteFault r (inl e) = rw e tt
-tells_source E.Memory r (inl e) = rw e tt
+tells_source (E.Memory want) r (inl e) = rw e tt
 tells_source end r (inr lacks) = rw lacks.0 tt
 
 -- a status tells that a program ended with it
@@ -42,7 +43,7 @@ tells_status (E.TurnLimit turns) status (inl e) = cc
 tells_status (E.Room what counted) status (inl e) = cc
 tells_status E.ReadFault status (inl e) = cc
 tells_status E.WriteFault status (inl e) = cc
-tells_status E.Memory status (inl e) = cc
+tells_status (E.Memory want) status (inl e) = cc
 tells_status end status (inr lacks) = let none = lacks.0 in cc
 
 pub ended_so : (end : RunEnd) (status : ℕ) → Tells end (Ok status) → IsStatus end
@@ -79,7 +80,7 @@ module _ (names : List (List ℕ)) (turns : ℕ) (f0 f1 : Option Contents) (read
   untouched : streams_of now ≡ streams_of before → IsUntouched before now
   untouched same = let both = same_streams now before same in record { files = kept; input = both.0; out = both.1 }
 
-  refused : (refusal : Refusal) → refusal ≡ R.Memory → streams_of now ≡ streams_of before → FilesAreRefused names before now refusal
+  refused : (refusal : Refusal) → refusal ≡ R.Memory no_memory → streams_of now ≡ streams_of before → FilesAreRefused names before now refusal
   refused refusal e same = subst (λ (r : Refusal). FilesAreRefused names before now r) (sym e) (untouched same)
 
   ran : (P : Counts → RunEnd → Type 0) (counts : Counts) (end : RunEnd) → RunComesTo p turns (streams_of before) (streams_of now) counts end → P counts end
@@ -91,7 +92,7 @@ module _ (names : List (List ℕ)) (turns : ℕ) (f0 f1 : Option Contents) (read
   interp_gives (Ok status) (inl h) = (ran _ h.0 h.1 h.2 h.3, kept)
   interp_gives (Ok status) (inr h) = let none = h.0 in cc
   interp_gives (Err refusal) (inl h) = inr (ran _ h.0 h.1 h.2 h.3, kept)
-  interp_gives (Err refusal) (inr h) = let e : refusal ≡ R.Memory = let is = h.0 in cc in inl (refused refusal e h.1)
+  interp_gives (Err refusal) (inr h) = let e : refusal ≡ R.Memory no_memory = let is = h.0 in cc in inl (refused refusal e h.1)
 
   module _ (out : List ℕ) where
     abbrev c : Profiling
@@ -100,7 +101,7 @@ module _ (names : List (List ℕ)) (turns : ℕ) (f0 f1 : Option Contents) (read
     no_profile : (refusal : Refusal)
         → RanSo p turns (streams_of before) (streams_of now) (Err refusal) (λ counts end. TellsNoProfile end refusal) → HasNoProfile c before now refusal
     no_profile refusal (inl h) = inr (ran _ h.0 h.1 h.2 h.3, kept)
-    no_profile refusal (inr h) = let e : refusal ≡ R.Memory = let is = h.0 in cc in inl (refused refusal e h.1)
+    no_profile refusal (inr h) = let e : refusal ≡ R.Memory no_memory = let is = h.0 in cc in inl (refused refusal e h.1)
 
     pub profile_refused : (refusal : Refusal)
         → RanSo p turns (streams_of before) (streams_of now) (Err refusal) (λ counts end. TellsNoProfile end refusal) → ProfileGives c before now (Err refusal)
@@ -128,5 +129,5 @@ module _ (names : List (List ℕ)) (turns : ℕ) (f0 f1 : Option Contents) (read
         partly = ended _ (tt, subst (λ (t : List ℕ). IfKnown f0 out (λ was. IfKnown f2 out (IsPartly t was))) is_text (left_partly out text f0 f1 f2 kept left.1));
         others = keep_then_but out f0 f1 f2 kept but;
       })
-      profile_unwritten R.Memory same left = inr (ended _ (inr (refl, tt)), keep_then_same out f0 f1 f2 kept but left)
+      profile_unwritten (R.Memory want) same left = inr (ended _ (inr (refl, tt)), keep_then_same out f0 f1 f2 kept but left)
       profile_unwritten _ same left = absurd left

@@ -16,13 +16,13 @@ use Rattle.lay_commands.specs.Stages.{WriteGives, ReportGives}
 pub outputs_texts : (f : Option Contents) (names : List (List ℕ)) (texts : PlaceTexts) (given : List ℕ) (c : Compilation) (files : List File) (p : ProgramData)
     (counts : Option Counts) (refusal : Refusal) → OutputsGive given c files p counts (Err refusal) → HasTexts f names texts refusal
 outputs_texts f names texts given c files p counts (R.NotBuilt name) gives = λ place. cc
-outputs_texts f names texts given c files p counts R.Memory gives = λ place. cc
+outputs_texts f names texts given c files p counts (R.Memory want) gives = λ place. cc
 outputs_texts f names texts given c files p counts _ gives = absurd gives
 
 pub write_texts : (f : Option Contents) (names : List (List ℕ)) (texts : PlaceTexts) (writes_before writes_now : ℕ) (before now : Option Contents)
     (out bytes : List ℕ) (refusal : Refusal) → WriteGives writes_before writes_now before now out bytes (Err refusal) → HasTexts f names texts refusal
 write_texts f names texts writes_before writes_now before now out bytes R.WriteFault gives = λ place. cc
-write_texts f names texts writes_before writes_now before now out bytes R.Memory gives = λ place. cc
+write_texts f names texts writes_before writes_now before now out bytes (R.Memory want) gives = λ place. cc
 write_texts f names texts writes_before writes_now before now out bytes _ gives = absurd gives
 
 pub report_texts : (f : Option Contents) (names : List (List ℕ)) (texts : PlaceTexts) (faults_before faults_now : ℕ) (before now : Option (List ℕ))

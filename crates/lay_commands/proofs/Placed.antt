@@ -7,6 +7,7 @@ use Rattle.c_link.specs.Programs.{IsProgramOf}
 use Rattle.c_typed.specs.Programs.{ProgramData}
 use Rattle.c_undefined_places.specs.Laws.{UndefinedStepsStandInFiles}
 use Rattle.lay_base.specs.Known.{Contents}
+use Rattle.lay_base.specs.Want.{no_memory}
 use Rattle.lay_base.specs.declared.faults.UndefinedKind.{UndefinedKind}
 use Rattle.lay_base.specs.declared.place.File.{File}
 use Rattle.lay_base.specs.declared.place.Place.{Place}
@@ -22,7 +23,7 @@ use Rattle.lay_compile.specs.ProgramFiles.Outside.{Outside}
 use Rattle.lay_compile.specs.ProgramFiles.Reading.{AreFilesOf, WereSo}
 use Rattle.lay_compile.specs.RefusalPlaces.Texts.{AreOfPlaces, NamedTextsAreOfPlaces}
 use Rattle.lay_compile.proofs.RefusalPlaces.FilesOfNames.{one_list}
-use Rattle.lay_commands.specs.Answers.{CommandGives, OutcomeGives, IsOfSource, IsTold, PlacesHave, PlacesStand, source_files}
+use Rattle.lay_commands.specs.Answers.{AreUnread, AskedGives, CommandGives, OutcomeGives, IsOfSource, IsTold, PlacesHave, PlacesStand, source_files}
 use Rattle.lay_commands.specs.Interpreting.{Ran, Tells, TellsNoProfile, ProfileGives, streams_of}
 use Rattle.lay_commands.specs.Profiles.{ProfileIsRefused}
 use Rattle.lay_commands.specs.Stages.{CompileGives}
@@ -37,7 +38,7 @@ is_step (R.TurnLimit turns) source has = cc
 is_step (R.Room what counted) source has = cc
 is_step R.ReadFault source has = cc
 is_step R.WriteFault source has = cc
-is_step R.Memory source has = cc
+is_step (R.Memory want) source has = cc
 is_step _ source has = absurd source
 
 no_command : (c : Command) → None ≡ Some c → ⊥
@@ -51,7 +52,7 @@ end_is (E.TurnLimit turns) kind place (inl e) = cc
 end_is (E.Room what counted) kind place (inl e) = cc
 end_is E.ReadFault kind place (inl e) = cc
 end_is E.WriteFault kind place (inl e) = cc
-end_is E.Memory kind place (inl e) = cc
+end_is (E.Memory want) kind place (inl e) = cc
 end_is end kind place (inr lacks) = let none = lacks.0 in cc
 
 module _ (of_places : NamedTextsAreOfPlaces) (steps : UndefinedStepsStandInFiles) (contents : Contents) (at first : List ℕ) where
@@ -68,7 +69,7 @@ module _ (of_places : NamedTextsAreOfPlaces) (steps : UndefinedStepsStandInFiles
   front names before now (R.FileFault name) known gives t = (t.0, t.1, (tt, tt))
   front names before now (R.TooLong name) known gives t = (t.0, t.1, (tt, tt))
   front names before now (R.Limit which counted) known gives t = (t.0, t.1, (tt, tt))
-  front names before now R.Memory known gives t = (t.0, t.1, (tt, tt))
+  front names before now (R.Memory want) known gives t = (t.0, t.1, (tt, tt))
   front names before now refusal known gives t =
       of_places contents names refusal at first (subst (λ files. WereSo files names (λ read. AreRefused read refusal)) known gives.0) t
 
@@ -116,8 +117,8 @@ module _ (of_places : NamedTextsAreOfPlaces) (steps : UndefinedStepsStandInFiles
   by_compile c before now refusal known (inl gives) t = front c.files before now refusal known gives t
   by_compile c before now refusal known (inr gives) t = by_given c before now refusal gives t
 
-  memory_has : (refusal : Refusal) → refusal ≡ R.Memory → HasPlace refusal → ⊥
-  memory_has refusal e has = let none : HasPlace R.Memory = subst HasPlace e has in cc
+  memory_has : (refusal : Refusal) → refusal ≡ R.Memory no_memory → HasPlace refusal → ⊥
+  memory_has refusal e has = let none : HasPlace (R.Memory no_memory) = subst HasPlace e has in cc
 
   no_profile : (names : List (List ℕ)) (turns : ℕ) (before now : Outside) (refusal : Refusal) → HasPlace refusal
       → Ran names turns before now (λ counts end. TellsNoProfile end refusal) → Ran names turns before now (λ counts end. Tells end (Err refusal))
@@ -140,13 +141,19 @@ module _ (of_places : NamedTextsAreOfPlaces) (steps : UndefinedStepsStandInFiles
   by_command (Run limit elf) before now refusal has told known gives t =
       let z = no_places None None at first limit elf before now refusal gives has in absurd (no_command z.0 z.1)
 
+-- words that are not read have no place
+unread_has : (before now : Outside) (refusal : Refusal) → AreUnread before now (Refused refusal) → HasPlace refusal → ⊥
+unread_has before now R.Unread unread has = cc
+unread_has before now _ unread has = absurd unread
+
 pub places_stand : NamedTextsAreOfPlaces → UndefinedStepsStandInFiles → (command : Option Command) (before now : Outside) (refusal : Refusal)
     (at first : List ℕ) → OutcomeGives command before now (Refused refusal) → PlacesHave command before.files refusal at first
     → PlacesStand command before.files before.input.bytes refusal at first
-places_stand of_places steps command before now refusal at first gives have has =
+places_stand of_places steps command before now refusal at first (inr unread) have has = absurd (unread_has before now refusal unread has)
+places_stand of_places steps command before now refusal at first (inl gives) have has =
     let z = have has in
     let c = z.0 in
-    let own = subst (λ command. OutcomeGives command before now (Refused refusal)) z.1 gives in (
+    let own = subst (λ command. AskedGives command before now (Refused refusal)) z.1 gives in (
       c,
       z.1,
       λ contents known told.

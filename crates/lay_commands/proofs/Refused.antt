@@ -35,7 +35,7 @@ no_places command files at first limit elf before now R.WriteFault gives = λ pl
 no_places command files at first limit elf before now (R.BadElf field found) gives = λ place. cc
 no_places command files at first limit elf before now (R.FileFault name) gives = λ place. cc
 no_places command files at first limit elf before now (R.TooLong name) gives = λ place. cc
-no_places command files at first limit elf before now R.Memory gives = λ place. cc
+no_places command files at first limit elf before now (R.Memory want) gives = λ place. cc
 no_places command files at first limit elf before now _ gives = absurd gives
 
 pub run_texts : (command : Option Command) (files : Option Contents) (at first : List ℕ) (limit : ℕ) (elf : List ℕ) (before now : Outside)

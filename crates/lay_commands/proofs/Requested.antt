@@ -15,7 +15,7 @@ use Rattle.lay_compile.specs.ProgramFiles.FrontEnd.{HasTexts, or_empty}
 use Rattle.lay_compile.specs.ProgramFiles.Outside.{Outside}
 use Rattle.lay_commands.specs.declared.outcome.Outcome.{Outcome}
 use Rattle.lay_commands.specs.declared.outcome.Outcome.TheVariants.{Done, Refused}
-use Rattle.lay_commands.specs.Answers.{IsOfMachine, IsOfSource, MayRead, OutcomeGives, OutcomeHas, run_outcome}
+use Rattle.lay_commands.specs.Answers.{AskedGives, IsOfMachine, IsOfSource, MayRead, OutcomeHas, run_outcome}
 use Rattle.lay_commands.specs.Interpreting.{InterpGives, ProfileGives}
 use Rattle.lay_commands.specs.Stages.{CompileGives, RunGives}
 use Rattle.lay_commands.proofs.Refused.{by_command, by_status_gives, run_texts}
@@ -23,12 +23,12 @@ use Rattle.lay_commands.proofs.Refused.{by_command, by_status_gives, run_texts}
 -- ---- of one to compile
 
 module _ (request : Request) (r : CompileRequest) (is : request ≡ Q.Compile r) where
-  pub compile_done : (before now : Outside) → CompileGives (compilation_of r) before now (Ok tt) → OutcomeGives (Some (requested request)) before now Done
-  compile_done before now gives = subst (λ (q : Request). OutcomeGives (Some (requested q)) before now Done) (sym is) gives
+  pub compile_done : (before now : Outside) → CompileGives (compilation_of r) before now (Ok tt) → AskedGives (Some (requested request)) before now Done
+  compile_done before now gives = subst (λ (q : Request). AskedGives (Some (requested q)) before now Done) (sym is) gives
 
   pub compile_refused : (before now : Outside) (refusal : Refusal) → CompileGives (compilation_of r) before now (Err refusal)
-      → OutcomeGives (Some (requested request)) before now (Refused refusal)
-  compile_refused before now refusal gives = subst (λ (q : Request). OutcomeGives (Some (requested q)) before now (Refused refusal)) (sym is) gives
+      → AskedGives (Some (requested request)) before now (Refused refusal)
+  compile_refused before now refusal gives = subst (λ (q : Request). AskedGives (Some (requested q)) before now (Refused refusal)) (sym is) gives
 
   pub compile_texts : (files : Option Contents) (texts : PlaceTexts) (refusal : Refusal) → HasTexts files (compilation_of r).files texts refusal
       → OutcomeHas (Some (requested request)) files (Refused refusal) (or_empty texts.at) (or_empty texts.first)
@@ -40,10 +40,10 @@ module _ (request : Request) (r : CompileRequest) (is : request ≡ Q.Compile r)
 
 module _ (request : Request) (r : ProfileRequest) (is : request ≡ Q.Profile r) (answer : Result ℕ Refusal) (outcome : Outcome)
     (tells : outcome ≡ run_outcome answer) where
-  pub profile_gives : (before now : Outside) → ProfileGives (profiling_of r) before now answer → OutcomeGives (Some (requested request)) before now outcome
+  pub profile_gives : (before now : Outside) → ProfileGives (profiling_of r) before now answer → AskedGives (Some (requested request)) before now outcome
   profile_gives before now gives =
-      subst (λ (q : Request). OutcomeGives (Some (requested q)) before now outcome) (sym is)
-      (subst (λ (o : Outcome). OutcomeGives (Some (requested (Q.Profile r))) before now o) (sym tells)
+      subst (λ (q : Request). AskedGives (Some (requested q)) before now outcome) (sym is)
+      (subst (λ (o : Outcome). AskedGives (Some (requested (Q.Profile r))) before now o) (sym tells)
       (by_status_gives (ProfileGives (profiling_of r) before now) answer gives))
 
   pub profile_texts : (files : Option Contents) (texts : PlaceTexts) → IfErr answer (HasTexts files (profiling_of r).files texts)
@@ -62,10 +62,10 @@ module _ (request : Request) (r : ProfileRequest) (is : request ≡ Q.Profile r)
 
 module _ (request : Request) (r : InterpRequest) (is : request ≡ Q.Interp r) (answer : Result ℕ Refusal) (outcome : Outcome)
     (tells : outcome ≡ run_outcome answer) where
-  pub interp_gives : (before now : Outside) → InterpGives (interpretation_of r) before now answer → OutcomeGives (Some (requested request)) before now outcome
+  pub interp_gives : (before now : Outside) → InterpGives (interpretation_of r) before now answer → AskedGives (Some (requested request)) before now outcome
   interp_gives before now gives =
-      subst (λ (q : Request). OutcomeGives (Some (requested q)) before now outcome) (sym is)
-      (subst (λ (o : Outcome). OutcomeGives (Some (requested (Q.Interp r))) before now o) (sym tells)
+      subst (λ (q : Request). AskedGives (Some (requested q)) before now outcome) (sym is)
+      (subst (λ (o : Outcome). AskedGives (Some (requested (Q.Interp r))) before now o) (sym tells)
       (by_status_gives (InterpGives (interpretation_of r) before now) answer gives))
 
   pub interp_texts : (files : Option Contents) (texts : PlaceTexts) → IfErr answer (HasTexts files (interpretation_of r).files texts)
@@ -84,10 +84,10 @@ module _ (request : Request) (r : InterpRequest) (is : request ≡ Q.Interp r) (
 
 module _ (request : Request) (r : RunRequest) (is : request ≡ Q.Run r) (answer : Result ℕ Refusal) (outcome : Outcome)
     (tells : outcome ≡ run_outcome answer) where
-  pub run_gives : (before now : Outside) → RunGives r.steps r.elf.now before now answer → OutcomeGives (Some (requested request)) before now outcome
+  pub run_gives : (before now : Outside) → RunGives r.steps r.elf.now before now answer → AskedGives (Some (requested request)) before now outcome
   run_gives before now gives =
-      subst (λ (q : Request). OutcomeGives (Some (requested q)) before now outcome) (sym is)
-      (subst (λ (o : Outcome). OutcomeGives (Some (requested (Q.Run r))) before now o) (sym tells)
+      subst (λ (q : Request). AskedGives (Some (requested q)) before now outcome) (sym is)
+      (subst (λ (o : Outcome). AskedGives (Some (requested (Q.Run r))) before now o) (sym tells)
       (by_status_gives (RunGives r.steps r.elf.now before now) answer gives))
 
   pub run_has : (files : Option Contents) (at first : List ℕ) (before now : Outside) → RunGives r.steps r.elf.now before now answer

@@ -33,15 +33,23 @@ CommandGives (Profile c) before now outcome = ByStatus (ProfileGives c before no
 CommandGives (Interp c) before now outcome = ByStatus (InterpGives c before now) outcome
 CommandGives (Run steps elf) before now outcome = ByStatus (RunGives steps elf before now) outcome
 
--- where the words ask for nothing, and where memory is out before they are read
+-- where the words ask for nothing
 abbrev pub NoCommandGives : (before now : Outside) → Outcome → Type 0
 NoCommandGives before now (Refused R.Usage) = IsUntouched before now
-NoCommandGives before now (Refused R.Memory) = IsUntouched before now
 NoCommandGives before now _ = ⊥
 
+-- where the words are read
+abbrev pub AskedGives : Option Command → (before now : Outside) → Outcome → Type 0
+AskedGives None before now outcome = NoCommandGives before now outcome
+AskedGives (Some command) before now outcome = CommandGives command before now outcome
+
+-- where memory is out before they are read
+abbrev pub AreUnread : (before now : Outside) → Outcome → Type 0
+AreUnread before now (Refused R.Unread) = IsUntouched before now
+AreUnread before now _ = ⊥
+
 abbrev pub OutcomeGives : Option Command → (before now : Outside) → Outcome → Type 0
-OutcomeGives None before now outcome = NoCommandGives before now outcome
-OutcomeGives (Some command) before now outcome = CommandGives command before now outcome
+OutcomeGives command before now outcome = AskedGives command before now outcome ⊎ AreUnread before now outcome
 
 -- ---- what is left of err
 
@@ -106,7 +114,7 @@ IsOfSource (Refused (R.TurnLimit turns)) = ⊤
 IsOfSource (Refused (R.Room what counted)) = ⊤
 IsOfSource (Refused R.ReadFault) = ⊤
 IsOfSource (Refused R.WriteFault) = ⊤
-IsOfSource (Refused R.Memory) = ⊤
+IsOfSource (Refused (R.Memory want)) = ⊤
 IsOfSource _ = ⊥
 
 -- the outcome of a run by its answer

@@ -111,7 +111,7 @@ KeepsAll (Some planned) = is_changed planned.plan.records ≡ false
 abbrev pub PlanGives : (given : List ℕ) → Compilation → ProgramData → Option Counts → Result (Option Planned) Refusal → Type 0
 PlanGives given c p counts (Ok planned) = IsPlanFor c.is_plain counts p planned × KeepsAll planned
 PlanGives given c p counts (Err (R.NotBuilt name)) = (name ≡ given) × IsNotBuilt c p counts
-PlanGives given c p counts (Err R.Memory) = Unit {0}
+PlanGives given c p counts (Err (R.Memory want)) = Unit {0}
 PlanGives given c p counts (Err _) = ⊥
 
 -- the file and the report are made, or the program is not compiled yet; a refusal has the name that is given
@@ -119,5 +119,5 @@ abbrev pub OutputsGive : (given : List ℕ) → Compilation → List File → Pr
 OutputsGive given c files p counts (Ok outputs) =
     IsBuilt c p counts × IsFileOf p c.heap c.stack outputs.elf.items × IsReportOf c.is_plain files p counts outputs.report.items
 OutputsGive given c files p counts (Err (R.NotBuilt name)) = (name ≡ given) × IsNotBuilt c p counts
-OutputsGive given c files p counts (Err R.Memory) = Unit {0}
+OutputsGive given c files p counts (Err (R.Memory want)) = Unit {0}
 OutputsGive given c files p counts (Err _) = ⊥

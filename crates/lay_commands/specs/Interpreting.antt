@@ -1,6 +1,7 @@
 -- The outside after `interp` and `profile`.
 use Rattle.std.specs.Prelude.{◌≡◌, ℕ, List, take, Option, Some, Result, Ok, Err, ◌⊎◌}
 use Rattle.lay_base.specs.Known.{Rose, IfKnown, FilesKeep, FilesKeepBut}
+use Rattle.lay_base.specs.Want.{no_memory}
 use Rattle.c_typed.specs.declared.run_counts.counts.Counts.{Counts}
 use Rattle.c_link.specs.Programs.{IsProgramOf}
 use Rattle.c_typed.specs.Programs.{ProgramData}
@@ -36,7 +37,7 @@ told (E.TurnLimit turns) = Err (R.TurnLimit turns)
 told (E.Room what counted) = Err (R.Room what counted)
 told E.ReadFault = Err R.ReadFault
 told E.WriteFault = Err R.WriteFault
-told E.Memory = Err R.Memory
+told (E.Memory want) = Err (R.Memory want)
 
 -- an end whose text has a place, for which memory may be out
 abbrev pub IsUndefined : RunEnd → Type 0
@@ -49,21 +50,21 @@ IsStatus end = ⊥
 
 -- the answer tells the end, or memory is out for its text
 abbrev pub Tells : RunEnd → Result ℕ Refusal → Type 0
-Tells end answer = (answer ≡ told end) ⊎ ((answer ≡ Err R.Memory) × IsUndefined end)
+Tells end answer = (answer ≡ told end) ⊎ ((answer ≡ Err (R.Memory no_memory)) × IsUndefined end)
 
 -- ---- by the answer of a run
 
 -- a run came to an end that is so, or memory was out before it began
 abbrev pub RanSo : ProgramData → (turns : ℕ) → (before now : Streams) → (answer : Result ℕ Refusal) → (Counts → RunEnd → Type 0) → Type 0
 RanSo p turns before now answer P = ((counts : Counts) × (end : RunEnd) × RunComesTo p turns before now counts end × P counts end)
-    ⊎ ((answer ≡ Err R.Memory) × (now ≡ before))
+    ⊎ ((answer ≡ Err (R.Memory no_memory)) × (now ≡ before))
 
 abbrev pub InterpretGives : ProgramData → (turns : ℕ) → (before now : Streams) → Result ℕ Refusal → Type 0
 InterpretGives p turns before now answer = RanSo p turns before now answer (λ counts end. Tells end answer)
 
 -- the end is told, or memory is out for its profile
 abbrev pub TellsNoProfile : RunEnd → Refusal → Type 0
-TellsNoProfile end refusal = Tells end (Err refusal) ⊎ ((refusal ≡ R.Memory) × IsStatus end)
+TellsNoProfile end refusal = Tells end (Err refusal) ⊎ ((refusal ≡ R.Memory no_memory) × IsStatus end)
 
 abbrev pub ProfiledGives : ProgramData → (turns : ℕ) → (before now : Streams) → Result Profiled Refusal → Type 0
 ProfiledGives p turns before now (Ok profiled) =

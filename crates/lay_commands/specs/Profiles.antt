@@ -91,7 +91,7 @@ IsRefused c before now refusal = FilesAreRefused c.files before now refusal ⊎ 
 abbrev pub FitGives : Counts → ProgramData → Result (Unit {0}) Refusal → Type 0
 FitGives counts p (Ok done) = Fits counts p
 FitGives counts p (Err (R.Stale function difference)) = (stale counts p ≡ Some difference) × (function ≡ profiled_name p difference.function)
-FitGives counts p (Err R.Memory) = Unit {0}
+FitGives counts p (Err (R.Memory want)) = Unit {0}
 FitGives counts p (Err _) = ⊥
 
 -- bytes are the text of a profile of the program
@@ -100,7 +100,7 @@ CountsGive bytes p (Ok counts) = IsProfile counts × (profile_text counts ≡ by
 CountsGive bytes p (Err (R.BadProfile line)) = BreaksAt line bytes
 CountsGive bytes p (Err (R.Stale function difference)) = (counts : Counts) × IsProfile counts × (profile_text counts ≡ bytes)
     × (stale counts p ≡ Some difference) × (function ≡ profiled_name p difference.function)
-CountsGive bytes p (Err R.Memory) = Unit {0}
+CountsGive bytes p (Err (R.Memory want)) = Unit {0}
 CountsGive bytes p (Err _) = ⊥
 
 -- the program with its files and the counts of the profile, as they were under their names at entry

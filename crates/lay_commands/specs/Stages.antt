@@ -21,7 +21,7 @@ abbrev pub WriteGives : (writes_before writes_now : ℕ) → (before now : Optio
 WriteGives writes_before writes_now before now name bytes (Ok done) = IfKnown now name (λ file. file ≡ Some bytes)
 WriteGives writes_before writes_now before now name bytes (Err R.WriteFault) =
     Rose writes_before writes_now × IfKnown before name (λ was. IfKnown now name (λ file. (file ≡ was) ⊎ ((k : ℕ) × (file ≡ Some (take k bytes)))))
-WriteGives writes_before writes_now before now name bytes (Err R.Memory) = IfKnown before name (λ was. IfKnown now name (λ file. file ≡ was))
+WriteGives writes_before writes_now before now name bytes (Err (R.Memory want)) = IfKnown before name (λ was. IfKnown now name (λ file. file ≡ was))
 WriteGives writes_before writes_now before now name bytes (Err _) = ⊥
 
 -- ---- compile
@@ -47,7 +47,7 @@ CompileGives c before now (Err refusal) = IsRefused c before now refusal
 abbrev pub ImageGives : (bytes : List ℕ) → Result Image Refusal → Type 0
 ImageGives bytes (Ok image) = loaded bytes ≡ Ok image
 ImageGives bytes (Err (R.BadElf field found)) = loaded bytes ≡ Err (field, found)
-ImageGives bytes (Err R.Memory) = Unit {0}
+ImageGives bytes (Err (R.Memory want)) = Unit {0}
 ImageGives bytes (Err _) = ⊥
 
 -- the program's status, or the refusal for another end
@@ -70,5 +70,5 @@ RunGives limit elf before now (Err R.WriteFault) = Rose before.out.faults now.ou
 RunGives limit elf before now (Err (R.BadElf field found)) = HoldsElf before.files elf (λ bytes. loaded bytes ≡ Err (field, found)) × IsUntouched before now
 RunGives limit elf before now (Err (R.FileFault name)) = (name ≡ elf) × Rose (before.failed_reads elf) (now.failed_reads elf) × IsUntouched before now
 RunGives limit elf before now (Err (R.TooLong name)) = (name ≡ elf) × HoldsLonger elf_limit elf before now × IsUntouched before now
-RunGives limit elf before now (Err R.Memory) = IsUntouched before now
+RunGives limit elf before now (Err (R.Memory want)) = IsUntouched before now
 RunGives limit elf before now (Err _) = ⊥

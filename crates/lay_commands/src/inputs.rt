@@ -14,7 +14,7 @@ ghost use Rattle.lay_commands.specs.Words.{compilation_of};
 
 use crate::words::CompileRequest;
 use c_typed::{Counts, Defined, Typed, profile_order};
-use lay_base::{Host, Name};
+use lay_base::{Host, Name, copied};
 use lay_compile::{
     PlaceTexts, SourceProgram, bytes_of, check_number, programs_have_few_functions,
     programs_have_few_loops, read_files, with_program,
@@ -77,13 +77,9 @@ fn check_fit(alloc: Global, counts: &Counts, p: &Typed) -> Result<(), Refusal>
     match fits(counts, p, order.as_slice()) {
         Ok(()) => Ok(()),
         Err(difference) => {
-            match Vec::from_slice(
-                alloc,
-                profiled_name(p, order.as_slice(), difference.function),
-            ) {
-                Ok(name) => Err(Refusal::Stale(Name::of(name), difference)),
-                Err(_) => Err(Refusal::Memory),
-            }
+            let name = profiled_name(p, order.as_slice(), difference.function);
+            let name = Name::of(copied(alloc, name)?);
+            Err(Refusal::Stale(name, difference))
         }
     }
 }
@@ -100,7 +96,7 @@ fn counts_of(alloc: Global, bytes: &[u8], p: &Typed) -> Result<Counts, Refusal>
             Ok(counts)
         }
         Err(ProfileFault::BadProfile(line)) => Err(Refusal::BadProfile(line)),
-        Err(ProfileFault::Memory) => Err(Refusal::Memory),
+        Err(ProfileFault::Memory(want)) => Err(Refusal::Memory(want)),
     }
 }
 

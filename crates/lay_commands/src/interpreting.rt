@@ -36,7 +36,7 @@ fn undefined(
             *texts = of_refusal;
             refusal
         }
-        Err(_) => Refusal::Memory,
+        Err(want) => Refusal::Memory(want),
     }
 }
 
@@ -58,7 +58,7 @@ pub fn answer_for(
         RunEnd::Room(what, counted) => Err(Refusal::Room(what, counted)),
         RunEnd::ReadFault => Err(Refusal::ReadFault),
         RunEnd::WriteFault => Err(Refusal::WriteFault),
-        RunEnd::Memory => Err(Refusal::Memory),
+        RunEnd::Memory(want) => Err(Refusal::Memory(want)),
     }
 }
 

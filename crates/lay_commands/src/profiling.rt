@@ -49,7 +49,7 @@ fn profile_of<I: Source, O: Sink>(
     let status = answer_for(alloc, source.files.as_slice(), end, texts)?;
     match profile_file::write(alloc, runner.counts()) {
         Ok(text) => Ok(Profiled { status, text }),
-        Err(_) => Err(Refusal::Memory),
+        Err(want) => Err(Refusal::Memory(want)),
     }
 }
 

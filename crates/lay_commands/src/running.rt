@@ -27,7 +27,7 @@ fn image_in(alloc: Global, bytes: Vec<u8>) -> Result<Image, Refusal>
     match elf32::read(alloc, &bytes) {
         Ok(image) => Ok(image),
         Err(ElfFault::BadElf(field, found)) => Err(Refusal::BadElf(field, found)),
-        Err(ElfFault::Memory) => Err(Refusal::Memory),
+        Err(ElfFault::Memory(want)) => Err(Refusal::Memory(want)),
     }
 }
 

@@ -9,7 +9,7 @@ ghost use Rattle.lay_compile.specs.ProgramFiles.FrontEnd.{or_empty};
 ghost use Rattle.lay_compile.specs.ProgramFiles.Outside.{outside, stream};
 ghost use Rattle.c_undefined_places.specs.Verdicts.{ViolationsStandInFiles};
 ghost use Rattle.layout_plan.specs.Planning.{PlansAreOne};
-ghost use Rattle.lay_commands.specs.Answers.{ErrGives, MayRead, OutcomeGives, OutcomeHas, run_outcome};
+ghost use Rattle.lay_commands.specs.Answers.{AskedGives, ErrGives, MayRead, OutcomeGives, OutcomeHas, run_outcome};
 
 use crate::compiling::compile;
 use crate::interpreting::interp;
@@ -19,7 +19,7 @@ use crate::running::run;
 use crate::words::{Request, matches_in, request_in};
 use c_undefined_places::{undefined_steps_stand_in_files, violations_stand_in_files};
 use clap::ArgMatches;
-use lay_base::{Bytes, Host, NoMemory, Sink, Source};
+use lay_base::{Bytes, Host, Sink, Source};
 use lay_compile::{PlaceTexts, named_texts_are_of_places, programs_are_one};
 use layout_plan::plans_are_one;
 use refusals::{Refusal, put_refusal};
@@ -50,7 +50,7 @@ fn outcome_for<H: Host, I: Source, O: Sink>(
         (stream (I.left input.old) (I.faults input.old)) (stream (O.written out.old) (O.faults out.old)) in
         let now = outside (H.files host.new) (H.failed_reads host.new) (H.failed_writes host.new)
         (stream (I.left input.new) (I.faults input.new)) (stream (O.written out.new) (O.faults out.new)) in
-        OutcomeGives (Some (requested request.entry)) before now result }
+        AskedGives (Some (requested request.entry)) before now result }
     ensures texts { OutcomeHas (Some (requested request.entry)) (H.files host.old) result (or_empty texts.new.at) (or_empty texts.new.first) }
 {
     match request {
@@ -78,7 +78,7 @@ fn outcome_in<H: Host, I: Source, O: Sink>(
         (stream (I.left input.old) (I.faults input.old)) (stream (O.written out.old) (O.faults out.old)) in
         let now = outside (H.files host.new) (H.failed_reads host.new) (H.failed_writes host.new)
         (stream (I.left input.new) (I.faults input.new)) (stream (O.written out.new) (O.faults out.new)) in
-        OutcomeGives (option_and_then command_found (subcommand_rows_of matches.now)) before now result }
+        AskedGives (option_and_then command_found (subcommand_rows_of matches.now)) before now result }
     ensures texts { OutcomeHas (option_and_then command_found (subcommand_rows_of matches.now)) (H.files host.old) result
         (or_empty texts.new.at) (or_empty texts.new.first) }
 {
@@ -109,7 +109,7 @@ fn outcome_of<H: Host, I: Source, O: Sink>(
     match matches_in(alloc, words) {
         Ok(Some(matches)) => outcome_in(alloc, &matches, host, input, out, texts),
         Ok(None) => Outcome::Refused(Refusal::Usage),
-        Err(NoMemory) => Outcome::Refused(Refusal::Memory),
+        Err(_) => Outcome::Refused(Refusal::Unread),
     }
 }
 

@@ -14,8 +14,7 @@ use crate::command_line::command_line;
 use crate::numbers::number_in;
 use clap::ArgMatches;
 use clap::error::ErrorKind;
-use lay_base::NoMemory;
-use std::alloc::Global;
+use std::alloc::{AllocError, Global};
 
 /// A request to compile `files` to an ELF file under `out`.
 #[derive(Clone, Copy)]
@@ -196,21 +195,18 @@ pub fn request_in<'b, 'a>(matches: &'b ArgMatches<'a>) -> Option<Request<'b, 'a>
     }
 }
 
-/// What the command line has of the words, where it takes them.
+/// What the command line has of the words, where it takes them. Where it finds no memory, its own error says so.
 pub fn matches_in<'a>(
     alloc: Global,
     words: &'a [String],
-) -> Result<Option<ArgMatches<'a>>, NoMemory>
+) -> Result<Option<ArgMatches<'a>>, AllocError>
     ensures { IfOk result (λ matches. option_and_then subcommand_rows_of matches ≡ matches_in (map string_bytes words.now)) }
 {
-    let Ok(command) = command_line(alloc) else {
-        return Err(NoMemory);
-    };
-    match command.try_get_matches_from(words) {
+    match command_line(alloc)?.try_get_matches_from(words) {
         Ok(matches) => Ok(Some(matches)),
         Err(error) => {
             if error.kind() == ErrorKind::OutOfMemory {
-                Err(NoMemory)
+                Err(AllocError)
             } else {
                 Ok(None)
             }

@@ -17,6 +17,6 @@ pub fn write_bytes<H: Host>(host: &mut H, name: &str, bytes: &[u8]) -> Result<()
     match host.write_file(name, bytes) {
         Ok(()) => Ok(()),
         Err(HostWrite::Failed) => Err(Refusal::WriteFault),
-        Err(HostWrite::Memory) => Err(Refusal::Memory),
+        Err(HostWrite::Memory(want)) => Err(Refusal::Memory(want)),
     }
 }

@@ -63,7 +63,7 @@ module _ (files : List File) (file : File) (number : ℕ) (is : slice_get files 
   lexical p n (L.BadLiteral at) e h = placed (record { file = n; at = at }) e (p.of_fault file.bytes K.BadLiteral at h)
   lexical p n (L.Unclosed at) e h = placed (record { file = n; at = at }) e (p.of_fault file.bytes K.Unclosed at h)
   lexical p n (L.TooWide at) e h = placed (record { file = n; at = at }) e (p.of_fault file.bytes K.TooWide at h)
-  lexical p n L.Memory e h = tt
+  lexical p n (L.Memory want) e h = tt
 
 -- ---- trees
 
@@ -105,7 +105,7 @@ module _ (p : TokensHavePlaces) (tokens : Tokens) (lexes : Lexes tokens.bytes to
       → ParseGives tokens (Err fault) → SyntaxStands Is fault
   syntax_in Is is (S.NoParse place) h = is place h.0.0 (place_of_tokens place h.0)
   syntax_in Is is (S.Unsupported keyword place) h = is place h.0 (place_of_keyword keyword place.at h.1)
-  syntax_in Is is S.Memory h = tt
+  syntax_in Is is (S.Memory want) h = tt
 
 -- ---- types
 
@@ -122,7 +122,7 @@ types_in p number file items tree Is is = of_fault
     of_fault (C.IllTyped rule place) h = is place h.0 (found _ h.1.0)
     of_fault (C.Undeclared x place) h = is place h.0 (found _ h.1.0)
     of_fault (C.Redeclared x place first) h = let both = found _ h.2.0 in (is place h.0 both.0, is first h.1 both.1)
-    of_fault C.Memory h = tt
+    of_fault (C.Memory want) h = tt
 
 -- ---- gaps
 
@@ -150,4 +150,4 @@ faults_stand p q r files (Types fault) h = of_items h.fails
     of_items (items, tree, gives) =
         types_in q (length h.passed) h.file items tree (IsPlaceOf files) (placed files h.file (length h.passed) (its_number h)) fault gives
 faults_stand p q r files (Joining gap) h = gap_in r files h.0 h.1 gap h.2
-faults_stand p q r files Memory h = tt
+faults_stand p q r files (Memory want) h = tt

@@ -85,7 +85,7 @@ module _ (reading : HaveOneReading) (trees : FilesHaveOneTree) (one : UnitsAreOn
     lexical n (L.BadLiteral at) s = inr (no_tokens n (L.BadLiteral at) F.BadLiteral at s s.fails.1)
     lexical n (L.Unclosed at) s = inr (no_tokens n (L.Unclosed at) F.Unclosed at s s.fails.1)
     lexical n (L.TooWide at) s = inr (no_tokens n (L.TooWide at) F.TooWide at s s.fails.1)
-    lexical n L.Memory s = inl tt
+    lexical n (L.Memory want) s = inl tt
 
     syntax : (fault : ParseFault) → FirstFails HasTokens HasTree (HasSyntaxFault fault) files → IsWantOfMemory (Syntax fault) ⊎ HaveNoProgram files
     syntax (S.NoParse place) s = inr (λ p h.
@@ -96,7 +96,7 @@ module _ (reading : HaveOneReading) (trees : FilesHaveOneTree) (one : UnitsAreOn
         let same = reading.one_list s.file.bytes w.1.tree.0 s.fails.0.list w.1.tree.1 s.fails.1.2 in
         let some_is_none = sym s.fails.2.1 ∙ ap first_unsupported same ∙ w.1.tree.2 in
         cc)
-    syntax S.Memory s = inl tt
+    syntax (S.Memory want) s = inl tt
 
     no_unit : (fault : CheckFault) (s : FirstFails HasTree HasUnit (HasTypeFault fault) files) → HasNoUnit (length s.passed) s.file s.fails.0
         → HaveNoProgram files
@@ -110,7 +110,7 @@ module _ (reading : HaveOneReading) (trees : FilesHaveOneTree) (one : UnitsAreOn
     types (T.IllTyped rule place) s = inr (no_unit (T.IllTyped rule place) s s.fails.2.1.1)
     types (T.Undeclared x place) s = inr (no_unit (T.Undeclared x place) s s.fails.2.1.1)
     types (T.Redeclared x place first) s = inr (no_unit (T.Redeclared x place first) s s.fails.2.2.1)
-    types T.Memory s = inl tt
+    types (T.Memory want) s = inl tt
 
     no_program : (units : List UnitData) → AreUnitsOf 0 files units → (gap : Gaps.Gap) → IsGap units gap → HaveNoProgram files
     no_program units are gap g p h =
@@ -124,14 +124,14 @@ module _ (reading : HaveOneReading) (trees : FilesHaveOneTree) (one : UnitsAreOn
     joining (G.Missing x) units are f = inr (no_program units are (Gaps.missing x) f)
     joining G.NoMain units are f = inr (no_program units are Gaps.no_main f)
     joining (G.Limit it) units are f = inr (no_program units are (Gaps.limit it.which it.counted) f)
-    joining G.Memory units are f = inl tt
+    joining (G.Memory want) units are f = inl tt
 
     refused : (fault : CompileFault) → IsFaultOf files fault → IsWantOfMemory fault ⊎ HaveNoProgram files
     refused (Lexical n fault) h = lexical n fault h
     refused (Syntax fault) h = syntax fault h
     refused (Types fault) h = types fault h
     refused (Joining gap) h = joining gap h.0 h.1 h.2
-    refused Memory h = inl tt
+    refused (Memory want) h = inl tt
 
   of_stages : (files : List File) (r : Result Typed CompileFault) → StagesGive files r → FrontGives files r
   of_stages files (Ok p) h = h

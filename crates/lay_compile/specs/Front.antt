@@ -76,15 +76,15 @@ IsFaultOf files (Lexical n fault) = FirstFails IsFile HasTokens (HasLexicalFault
 IsFaultOf files (Syntax fault) = FirstFails HasTokens HasTree (HasSyntaxFault fault) files
 IsFaultOf files (Types fault) = FirstFails HasTree HasUnit (HasTypeFault fault) files
 IsFaultOf files (Joining gap) = (units : List UnitData) × AreUnitsOf 0 files units × Fails (IsGap units) gap
-IsFaultOf files Memory = Unit {0}
+IsFaultOf files (Memory want) = Unit {0}
 
 -- want of memory, whichever stage met it
 abbrev pub IsWantOfMemory : CompileFault → Type 0
-IsWantOfMemory (Lexical n L.Memory) = Unit {0}
-IsWantOfMemory (Syntax S.Memory) = Unit {0}
-IsWantOfMemory (Types T.Memory) = Unit {0}
-IsWantOfMemory (Joining G.Memory) = Unit {0}
-IsWantOfMemory Memory = Unit {0}
+IsWantOfMemory (Lexical n (L.Memory want)) = Unit {0}
+IsWantOfMemory (Syntax (S.Memory want)) = Unit {0}
+IsWantOfMemory (Types (T.Memory want)) = Unit {0}
+IsWantOfMemory (Joining (G.Memory want)) = Unit {0}
+IsWantOfMemory (Memory want) = Unit {0}
 IsWantOfMemory fault = ⊥
 
 abbrev pub HaveNoProgram : List File → Type 0

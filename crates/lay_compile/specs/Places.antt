@@ -22,19 +22,19 @@ LexicalStands Is number (L.BadByte at) = Is (record { file = number; at = at })
 LexicalStands Is number (L.BadLiteral at) = Is (record { file = number; at = at })
 LexicalStands Is number (L.Unclosed at) = Is (record { file = number; at = at })
 LexicalStands Is number (L.TooWide at) = Is (record { file = number; at = at })
-LexicalStands Is number L.Memory = Unit {0}
+LexicalStands Is number (L.Memory want) = Unit {0}
 
 abbrev pub SyntaxStands : (Place → Type 0) → ParseFault → Type 0
 SyntaxStands Is (S.NoParse place) = Is place
 SyntaxStands Is (S.Unsupported keyword place) = Is place
-SyntaxStands Is S.Memory = Unit {0}
+SyntaxStands Is (S.Memory want) = Unit {0}
 
 abbrev pub TypesStand : (Place → Type 0) → CheckFault → Type 0
 TypesStand Is (T.TooBig place) = Is place
 TypesStand Is (T.IllTyped rule place) = Is place
 TypesStand Is (T.Undeclared x place) = Is place
 TypesStand Is (T.Redeclared x place first) = Is place × Is first
-TypesStand Is T.Memory = Unit {0}
+TypesStand Is (T.Memory want) = Unit {0}
 
 abbrev pub GapStands : (Place → Type 0) → Gap → Type 0
 GapStands Is (G.TagClash t) = Is t.place × Is t.first
@@ -47,7 +47,7 @@ Stands Is (Lexical number fault) = LexicalStands Is number fault
 Stands Is (Syntax fault) = SyntaxStands Is fault
 Stands Is (Types fault) = TypesStand Is fault
 Stands Is (Joining gap) = GapStands Is gap
-Stands Is Memory = Unit {0}
+Stands Is (Memory want) = Unit {0}
 
 -- it is one of the file of its number, with tokens before it
 abbrev pub FaultsStandInFiles : Type 0

@@ -20,13 +20,13 @@ pub enum CompileFault {
     Types(CheckFault),
     /// A gap of the units.
     Joining(Gap),
-    Memory,
+    Memory(NoMemory),
 }
 
 impl From<NoMemory> for CompileFault {
-    ghost from_gives = { λ _ fault. fault ≡ Memory };
+    ghost from_gives = { λ want fault. fault ≡ Memory want };
 
-    fn from(_want: NoMemory) -> CompileFault {
-        CompileFault::Memory
+    fn from(want: NoMemory) -> CompileFault {
+        CompileFault::Memory(want)
     }
 }

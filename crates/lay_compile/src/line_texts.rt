@@ -6,20 +6,21 @@
 ghost use Rattle.std.specs.Prelude.{◌≡◌, ◌≢◌, ◌≤◌, All, IfOk, length};
 ghost use Rattle.c_lexer.specs.declared.fault.LexFault.TheVariants as L;
 ghost use Rattle.c_erasure.specs.Untagged.{name_in};
+ghost use Rattle.lay_base.specs.Want.{no_memory};
 ghost use Rattle.lay_compile.specs.LineTexts.PlaceTexts.{line_text, IsTextAt, IsPlaceText, PresumesIfAny};
 
 use c_lexer::{LexFault, lex, presumed_at, texts_have_one_reading};
 use c_tokens::Presumed;
 use itoa::Buffer;
-use lay_base::{Bytes, File, NoMemory, Place};
-use std::alloc::{AllocError, Global};
+use lay_base::{Bytes, File, NoMemory, Place, append, copied};
+use std::alloc::Global;
 
 /// Passes where a text has a fault, and not only memory is out.
 fn check_fault(fault: LexFault) -> Result<(), NoMemory>
-    ensures { IfOk result (λ _. fault ≢ L.Memory) }
+    ensures { IfOk result (λ _. fault ≢ L.Memory no_memory) }
 {
     match fault {
-        LexFault::Memory => Err(NoMemory),
+        LexFault::Memory(want) => Err(want),
         LexFault::BadByte(_)
         | LexFault::BadLiteral(_)
         | LexFault::Unclosed(_)
@@ -63,13 +64,13 @@ fn presumed_name<'a>(file: &'a File, presumed: Presumed) -> &'a [u8]
     name
 }
 
-fn line_bytes(alloc: Global, name: &[u8], line: u32) -> Result<Vec<u8>, AllocError>
+fn line_bytes(alloc: Global, name: &[u8], line: u32) -> Result<Vec<u8>, NoMemory>
     ensures { IfOk result (λ text. text.items ≡ line_text (name.now, line)) }
 {
     let mut buffer = Buffer::new();
-    let mut text = Vec::from_slice(alloc, name)?;
-    text.extend_from_slice(b":")?;
-    text.extend_from_slice(buffer.format(line).as_bytes())?;
+    let mut text = copied(alloc, name)?;
+    append(&mut text, b":")?;
+    append(&mut text, buffer.format(line).as_bytes())?;
     Ok(text)
 }
 
@@ -81,10 +82,8 @@ fn text_at(alloc: Global, file: &File, at: u32) -> Result<Bytes, NoMemory>
     let Some(presumed) = presumed_if_any(alloc, file.bytes.as_slice(), at)? else {
         return Ok(Bytes::of(Vec::new(alloc)));
     };
-    match line_bytes(alloc, presumed_name(file, presumed), presumed.line) {
-        Ok(text) => Ok(Bytes::of(text)),
-        Err(_) => Err(NoMemory),
-    }
+    let text = line_bytes(alloc, presumed_name(file, presumed), presumed.line)?;
+    Ok(Bytes::of(text))
 }
 
 /// The text of a place in files; an empty one where there is no such file, or no tokens are before the place.

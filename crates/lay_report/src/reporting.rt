@@ -14,7 +14,7 @@ use crate::text::{Text, put_line};
 use affinity::hotnesses;
 use c_typed::{Defined, Typed};
 use c_types::{Record, Records, Ty, records_are_complete, size_of};
-use lay_base::{Bytes, NoMemory};
+use lay_base::{Bytes, NoMemory, push};
 use layout_plan::Planned;
 use std::alloc::Global;
 
@@ -28,9 +28,7 @@ fn defined(alloc: Global, records: &[Record], count: u32) -> Result<Vec<Defined>
             number: number as u32,
             place: r.place,
         };
-        if all.push(defined).is_err() {
-            return Err(NoMemory);
-        }
+        push(&mut all, defined)?;
     }
     let _ = count;
     Ok(all)
@@ -80,7 +78,7 @@ fn put_by_plan(
         return;
     };
     match hotnesses(alloc, &planned.weights, number, r.fields.len() as u32) {
-        Err(NoMemory) => text.full = true,
+        Err(want) => text.want = Some(want),
         Ok(hotness) => put_planned(
             text,
             size,
@@ -152,8 +150,8 @@ pub fn report(
         planned,
         places,
     );
-    if text.full {
-        return Err(NoMemory);
+    match text.want {
+        Some(want) => Err(want),
+        None => Ok(text.bytes),
     }
-    Ok(text.bytes)
 }

@@ -5,13 +5,14 @@ ghost use Rattle.std.specs.List.{concat};
 ghost use Rattle.lay_report.specs.Texts.{line};
 ghost use Rattle.lay_report.specs.Writes.{Writes};
 
+use lay_base::{NoMemory, append};
 use std::alloc::Global;
 
-/// A text, and whether memory was out as it grew.
+/// A text, and the want of memory as it grew.
 #[derive(Drop)]
 pub struct Text {
     pub bytes: Vec<u8>,
-    pub full: bool,
+    pub want: Option<NoMemory>,
 }
 
 impl Text {
@@ -20,7 +21,7 @@ impl Text {
     {
         Text {
             bytes: Vec::new(alloc),
-            full: false,
+            want: None,
         }
     }
 }
@@ -28,11 +29,11 @@ impl Text {
 pub fn put(text: &mut Text, piece: &[u8])
     ensures { Writes text.old text.new piece.now }
 {
-    if text.full {
+    if text.want.is_some() {
         return;
     }
-    if text.bytes.extend_from_slice(piece).is_err() {
-        text.full = true;
+    if let Err(want) = append(&mut text.bytes, piece) {
+        text.want = Some(want);
     }
 }
 

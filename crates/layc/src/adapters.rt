@@ -7,10 +7,9 @@ ghost use Rattle.std.specs.Prelude.{◌≡◌, ◌≤◌, ℕ, List, None, is_ok
 ghost use Rattle.lay_base.specs.Calls.{ReadGives, WriteGives};
 ghost use Rattle.lay_base.specs.Known.{Raises, raised};
 
-use lay_base::{Host, HostRead, HostWrite, Sink, SinkFault, Source, SourceFault};
-use std::fs::Files;
-use std::io::{ErrorKind, Read, Write};
-use std::{fs, io};
+use lay_base::{Host, HostRead, HostWrite, Sink, SinkFault, Source, SourceFault, read_at_most};
+use std::fs::{self, Files};
+use std::io::{Read, Write};
 
 /// The files of the system. Its one count stands for each of a host's counts, and rises at every
 /// failed call.
@@ -26,14 +25,6 @@ impl<'a, R: Files + AllocGlobal> FileHost<'a, R> {
         ensures { result.faults ≡ 0 }
     {
         FileHost { rt, faults: 0 }
-    }
-
-    /// The bytes of a file, or one more than the limit where there are more.
-    fn some_bytes(&self, name: &str, limit: u64) -> io::Result<Vec<u8>> {
-        let mut bytes = Vec::new(self.rt.alloc());
-        let file = fs::open(self.rt, name)?;
-        file.take(limit.saturating_add(1)).read_to_end(&mut bytes)?;
-        Ok(bytes)
     }
 }
 
@@ -51,23 +42,11 @@ impl<R: Files + AllocGlobal> Host for FileHost<'_, R> {
         ensures writes { Raises (λ _. self.old.faults) (λ _. self.new.faults) result }
         ensures gives { ReadGives self.old.faults self.new.faults None name.now limit result }
     {
-        let fault = match self.some_bytes(name, limit) {
-            Ok(bytes) => {
-                if bytes.len() as u64 <= limit {
-                    return Ok(bytes);
-                }
-                HostRead::TooLong
-            }
-            Err(e) => {
-                if e.kind() == ErrorKind::OutOfMemory {
-                    HostRead::Memory
-                } else {
-                    HostRead::Failed
-                }
-            }
-        };
-        self.faults = self.faults.saturating_add(1);
-        Err(fault)
+        let answer = read_at_most(self.rt, name, limit);
+        if answer.is_err() {
+            self.faults = self.faults.saturating_add(1);
+        }
+        answer
     }
 
     fn write_file(&mut self, name: &str, bytes: &[u8]) -> Result<(), HostWrite>

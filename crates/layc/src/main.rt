@@ -15,46 +15,27 @@ mod adapters;
 mod tests;
 
 use adapters::{FileHost, StdSink, StdSource};
-use lay_base::NoMemory;
+use lay_base::{NoMemory, arguments, buffered};
 use lay_commands::{Outcome, layc, status_of};
 use refusals::{Refusal, put_refusal};
-use std::env;
-use std::io::{BufReader, ErrorKind};
 use std::process::ExitCode;
 
-/// The words after the program's own name. Where the system does not give them as text, there
-/// are none, which asks for nothing.
-fn words_of(rt: &HostRuntime) -> Result<Vec<String>, NoMemory> {
-    let mut words = Vec::new(rt.alloc());
-    match env::args(rt) {
-        Ok(args) => {
-            for word in args.skip(1) {
-                if words.push(word).is_err() {
-                    return Err(NoMemory);
-                }
-            }
-            Ok(words)
-        }
-        Err(e) => {
-            if e.kind() == ErrorKind::OutOfMemory {
-                Err(NoMemory)
-            } else {
-                Ok(words)
-            }
-        }
+/// The words after the program's own name. Where the system gives none as text, there are none, which asks for nothing.
+fn after_the_name(words: &[String]) -> &[String] {
+    match words {
+        [_, more @ ..] => more,
+        [] => words,
     }
 }
 
 /// Does what the words ask for. Standard input is read in pieces, each of which is used at once however
 /// short it is.
 fn outcome_of(rt: &HostRuntime) -> Result<Outcome, NoMemory> {
-    let words = words_of(rt)?;
-    let Ok(input) = BufReader::new(rt.alloc(), rt.stdin()) else {
-        return Err(NoMemory);
-    };
+    let words = arguments(rt)?;
+    let input = buffered(rt.alloc(), rt.stdin())?;
     Ok(layc(
         rt.alloc(),
-        &words,
+        after_the_name(&words),
         &mut FileHost::new(rt),
         &mut StdSource::new(input),
         &mut StdSink::new(rt.stdout()),
@@ -63,15 +44,16 @@ fn outcome_of(rt: &HostRuntime) -> Result<Outcome, NoMemory> {
 }
 
 /// The refusal for want of memory before a command is known, whose text goes to standard error.
-fn refused_for_memory(rt: &HostRuntime) -> Outcome {
-    let _ = put_refusal(&mut StdSink::new(rt.stderr()), &Refusal::Memory, b"", b"");
-    Outcome::Refused(Refusal::Memory)
+fn refused_for(want: NoMemory, rt: &HostRuntime) -> Outcome {
+    let refusal = Refusal::Memory(want);
+    let _ = put_refusal(&mut StdSink::new(rt.stderr()), &refusal, b"", b"");
+    Outcome::Refused(refusal)
 }
 
 fn main(rt: HostRuntime) -> ExitCode {
     let outcome = match outcome_of(&rt) {
         Ok(outcome) => outcome,
-        Err(NoMemory) => refused_for_memory(&rt),
+        Err(want) => refused_for(want, &rt),
     };
     ExitCode::from(status_of(&outcome))
 }

@@ -18,7 +18,7 @@ use crate::outline::Outline;
 use crate::plans::Decision;
 use affinity::FieldWeights;
 use c_types::{Field, Records, checked_size_of, records_are_complete};
-use lay_base::{List, NoMemory, add};
+use lay_base::{List, NoMemory, add, copied};
 use std::alloc::Global;
 
 /// The fields whose value is loaded somewhere.
@@ -163,12 +163,9 @@ fn is_worth(records: &Records, own: &[Field], apart: &[u32]) -> bool
 fn in_one(alloc: Global, w: &FieldWeights, fields: &[u32]) -> Result<Outline, NoMemory>
     ensures { IfOk result (λ o. o ≡ outline Reordered (placed w.now fields.now ∷ [])) }
 {
-    let mut all = List::new(alloc);
-    if all.as_mut_vec().extend_from_slice(fields).is_err() {
-        return Err(NoMemory);
-    }
+    let all = copied(alloc, fields)?;
     let mut parts = List::new(alloc);
-    add_placed(alloc, w, &mut parts, all)?;
+    add_placed(alloc, w, &mut parts, List::of(all))?;
     Ok(Outline {
         decision: Decision::Reordered,
         parts,

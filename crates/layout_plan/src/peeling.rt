@@ -12,7 +12,7 @@ ghost use Rattle.layout_plan.specs.Peeling.{by_fact, by_function, by_initial, by
 use c_facts::Fact;
 use c_typed::{Function, Initial, InitialValue, Local, Object, Typed};
 use c_types::{Record, Ty};
-use lay_base::{List, NoMemory};
+use lay_base::{List, NoMemory, filled};
 use std::alloc::Global;
 
 /// The type with that number in a list; none past its end.
@@ -196,10 +196,8 @@ fn clear_functions(marks: &mut [bool], types: &[Ty], functions: &[Function])
 fn all_marked(alloc: Global, count: u32) -> Result<List<bool>, NoMemory>
     ensures { IfOk result (λ marks. marks ≡ replicate count true) }
 {
-    match vec![in alloc; true; count as usize] {
-        Ok(marks) => Ok(List::of(marks)),
-        Err(_) => Err(NoMemory),
-    }
+    let marks = filled(alloc, true, count as usize)?;
+    Ok(List::of(marks))
 }
 
 fn left(alloc: Global, p: &Typed, facts: &[Fact]) -> Result<List<bool>, NoMemory>

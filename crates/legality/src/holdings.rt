@@ -5,7 +5,7 @@ ghost use Rattle.c_types.specs.Views.{field_of, record_of, records_of, type_of};
 ghost use Rattle.legality.specs.Holdings.{held_in, holdings_of, is_among, new_in, with_field, with_record};
 
 use c_types::{Field, Record, Ty};
-use lay_base::{List, NoMemory, add};
+use lay_base::{List, NoMemory, add, append};
 use std::alloc::Global;
 
 fn is_among(r: u32, all: &[u32]) -> bool
@@ -55,9 +55,7 @@ fn add_field(
     ensures { OnOk result (all.new ≡ with_field holdings.now all.old (field_of f.now)) }
 {
     let fresh = new_in(alloc, all.as_slice(), held_in(holdings, &f.ty))?;
-    all.as_mut_vec()
-        .extend_from_slice(fresh.as_slice())
-        .map_err(|_| NoMemory)
+    append(all.as_mut_vec(), fresh.as_slice())
 }
 
 /// What a record holds, itself first, by what those before it hold.

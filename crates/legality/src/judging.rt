@@ -13,7 +13,7 @@ use crate::mentions::mark_mentions;
 use crate::violation::Violation;
 use c_facts::Fact;
 use c_typed::Typed;
-use lay_base::{List, NoMemory};
+use lay_base::{List, NoMemory, filled};
 use std::alloc::Global;
 
 /// For each record of a program its first violation; none where it is legal.
@@ -37,10 +37,8 @@ impl Verdicts {
 fn nothing_found(alloc: Global, count: u32) -> Result<List<Option<Violation>>, NoMemory>
     ensures { IfOk result (λ firsts. firsts ≡ replicate count None) }
 {
-    match vec![in alloc; None; count as usize] {
-        Ok(firsts) => Ok(List::of(firsts)),
-        Err(_) => Err(NoMemory),
-    }
+    let firsts = filled(alloc, None, count as usize)?;
+    Ok(List::of(firsts))
 }
 
 fn firsts(alloc: Global, p: &Typed, facts: &[Fact]) -> Result<List<Option<Violation>>, NoMemory>

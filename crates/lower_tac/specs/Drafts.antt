@@ -1,5 +1,5 @@
 -- What is written of a function.
-use Rattle.std.specs.Prelude.{◌≡◌, ◌++◌, ◌∷◌, ◌-◌, ℕ, false, List}
+use Rattle.std.specs.Prelude.{◌≡◌, ◌++◌, ◌∷◌, ◌-◌, ℕ, None, List}
 use Rattle.c_typed.specs.Programs.{ProgramData}
 use Rattle.c_typed.specs.Trees
 use Rattle.c_typed.specs.Typed.{at_of}
@@ -18,12 +18,12 @@ use Rattle.lower_tac.specs.Writing.{code_in}
 abbrev pub out_in : Draft → Out
 out_in d = record { code = code_in d.code; labels = d.labels.items; texts = d.texts; loops = d.loops }
 
--- where no fault is kept there was none before, and what is made is made of what was there
+-- where no want of memory is kept there was none before, and what is made is made of what was there
 abbrev pub Drafted : (old new : Draft) → (Out → Out) → Type 0
-Drafted old new made = new.code.fault ≡ false → (old.code.fault ≡ false) × (out_in new ≡ made (out_in old))
+Drafted old new made = new.code.want ≡ None → (old.code.want ≡ None) × (out_in new ≡ made (out_in old))
 
 abbrev pub DraftedTo : {A : Type 0} → (old new : Draft) → A → (Out → A) → (Out → Out) → Type 0
-DraftedTo old new answer known made = new.code.fault ≡ false → (old.code.fault ≡ false) × (answer ≡ known (out_in old)) × (out_in new ≡ made (out_in old))
+DraftedTo old new answer known made = new.code.want ≡ None → (old.code.want ≡ None) × (answer ≡ known (out_in old)) × (out_in new ≡ made (out_in old))
 
 -- the body of a loop, which begins at a label
 abbrev pub begun : (function label : ℕ) → Out → Out
@@ -36,7 +36,7 @@ body_in g body end next label x out =
 -- arms, and where they begin, before those that are there
 abbrev pub ArmsDrafted : (old new : Draft) → (was starts : List Target) → (Out → ArmsOut) → Type 0
 ArmsDrafted old new was starts made =
-    new.code.fault ≡ false → (old.code.fault ≡ false) × (starts ≡ (made (out_in old)).starts ++ was) × (out_in new ≡ (made (out_in old)).out)
+    new.code.want ≡ None → (old.code.want ≡ None) × (starts ≡ (made (out_in old)).starts ++ was) × (out_in new ≡ (made (out_in old)).out)
 
 -- what stands before the arms of a `switch`
 abbrev pub before_arms : ProgramData → (g : ℕ) → List Local → AnExpression → List ℕ → Trees.Arms ℕ → List Target → (behind : Target) → Steps → Steps

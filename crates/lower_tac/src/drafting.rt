@@ -1,6 +1,6 @@
 //! Steps, labels and texts of a function, put in front of what is there.
 
-ghost use Rattle.std.specs.Prelude.{◌≡◌, ◌++◌, ◌∷◌, [], false, length, map};
+ghost use Rattle.std.specs.Prelude.{◌≡◌, ◌++◌, ◌∷◌, [], length, map};
 ghost use Rattle.c_typed.specs.RunCounts.Loops.{loops_in_all};
 ghost use Rattle.c_typed.specs.Views.{statement_of, statements_of};
 ghost use Rattle.tac_ir.specs.declared.step.Step.TheVariants as S;
@@ -9,7 +9,7 @@ ghost use Rattle.lower_tac.specs.Statements.{before, here, label_of, marked, wit
 
 use crate::draft::Draft;
 use c_typed::{Statement, loops_in_statements};
-use lay_base::{Bytes, add};
+use lay_base::{Bytes, NoMemory, add, copied, push};
 use std::alloc::Global;
 use tac_ir::{Step, Target};
 
@@ -33,8 +33,12 @@ impl Draft {
         ensures { DraftedTo self.old self.new result label_of with_label }
     {
         let label = self.labels.len();
-        if label > 0xFFFF_FFFF || self.labels.push(0).is_err() {
-            self.code.fail();
+        if label > 0xFFFF_FFFF {
+            self.code.fail(NoMemory::unearned());
+            return 0;
+        }
+        if let Err(want) = push(&mut self.labels, 0) {
+            self.code.fail(want);
             return 0;
         }
         label as u32
@@ -68,7 +72,7 @@ impl Draft {
         if more < 0xFFFF_FFFF - self.loops {
             self.loops += more;
         } else {
-            self.code.fail();
+            self.code.fail(NoMemory::unearned());
         }
     }
 
@@ -78,13 +82,13 @@ impl Draft {
     {
         let number = self.texts.len();
         if number > 0xFFFF_FFFF {
-            return self.code.fail();
+            return self.code.fail(NoMemory::unearned());
         }
-        match Vec::from_slice(alloc, bytes.as_slice()) {
-            Err(_) => self.code.fail(),
+        match copied(alloc, bytes.as_slice()) {
+            Err(want) => self.code.fail(want),
             Ok(copy) => {
-                if add(&mut self.texts, Bytes::of(copy)).is_err() {
-                    self.code.fail();
+                if let Err(want) = add(&mut self.texts, Bytes::of(copy)) {
+                    self.code.fail(want);
                 }
                 self.put(Step::Text(local, offset, number as u32));
             }

@@ -1,9 +1,9 @@
 //! The code of expressions and paths, from the back.
 
-ghost use Rattle.std.specs.Prelude.{◌≡◌, ◌∷◌, false, map};
+ghost use Rattle.std.specs.Prelude.{◌≡◌, map, true};
 ghost use Rattle.c_typed.specs.Views.{expression_of, expressions_of, path_of};
 ghost use Rattle.lower_tac.specs.Expressions.{arguments_code, branch_code, effect_code, member_code, path_code, value_code};
-ghost use Rattle.lower_tac.specs.Grounds.{locals_in, part_in, place_in, program_in, stored_in, address_in, branch_shown, effect_shown, member_shown};
+ghost use Rattle.lower_tac.specs.Grounds.{locals_in, part_in, place_in, program_in, stored_in, address_in, branch_shown, decides, drops, effect_shown, leads_through, member_shown};
 ghost use Rattle.lower_tac.specs.Parts.{left_code};
 ghost use Rattle.lower_tac.specs.Writing.{Wrote, code_in};
 
@@ -12,7 +12,7 @@ use crate::operands::{decides, drops, fixed, leads_through};
 use crate::steps::{ALONE, put_truth};
 use crate::writer::Writer;
 use c_typed::{Expression, ExpressionNode, Path, PathNode};
-use lay_base::{List, Place, UndefinedKind};
+use lay_base::{List, NoMemory, Place, UndefinedKind};
 use tac_ir::{Operand, Step, Target};
 
 /// Temporaries of a part have numbers that are little greater than its own.
@@ -25,7 +25,7 @@ impl Ground<'_> {
         ensures { Wrote w.old w.new (value_code (program_in self.now) (locals_in self.now) (expression_of e.now) to d) }
     {
         if d > GREATEST {
-            return w.fail();
+            return w.fail(NoMemory::unearned());
         }
         let at = e.place;
         match &e.node {
@@ -134,7 +134,7 @@ impl Ground<'_> {
         ensures { Wrote w.old w.new (stored_in self.now e.now to d) }
     {
         if d > GREATEST {
-            return w.fail();
+            return w.fail(NoMemory::unearned());
         }
         let at = e.place;
         match &e.node {
@@ -181,7 +181,7 @@ impl Ground<'_> {
                     self.path(w, false, q, d, d);
                 }
             },
-            _ => w.fail(),
+            _ => {}
         }
     }
 
@@ -199,6 +199,7 @@ impl Ground<'_> {
 
     #[cycle(lowering)]
     fn effect_shown(&self, w: &mut Writer, e: &Expression, d: u32)
+        requires { drops (expression_of e.now) ≡ true }
         ensures { Wrote w.old w.new (effect_shown (program_in self.now) (locals_in self.now) (expression_of e.now) d) }
     {
         match &e.node {
@@ -210,7 +211,7 @@ impl Ground<'_> {
             | ExpressionNode::AssignOp(_, _, _)
             | ExpressionNode::Step(_, _, _)
             | ExpressionNode::CopyRecord(_, _) => self.stored(w, e, None, d),
-            _ => w.fail(),
+            _ => unreachable!(),
         }
     }
 
@@ -229,10 +230,11 @@ impl Ground<'_> {
 
     #[cycle(lowering)]
     fn branch_shown(&self, w: &mut Writer, e: &Expression, when: bool, to: Target, d: u32)
+        requires { decides (expression_of e.now) ≡ true }
         ensures { Wrote w.old w.new (branch_shown (program_in self.now) (locals_in self.now) (expression_of e.now) when to d) }
     {
         if d > GREATEST {
-            return w.fail();
+            return w.fail(NoMemory::unearned());
         }
         match &e.node {
             ExpressionNode::Compare(op, x, y) => {
@@ -261,7 +263,7 @@ impl Ground<'_> {
                     self.branch(w, x.get(), true, past, d);
                 }
             }
-            _ => w.fail(),
+            _ => unreachable!(),
         }
     }
 
@@ -323,7 +325,7 @@ impl Ground<'_> {
         ensures { Wrote w.old w.new (path_code (program_in self.now) (locals_in self.now) addressed (path_of q.now) to d) }
     {
         if d > GREATEST {
-            return w.fail();
+            return w.fail(NoMemory::unearned());
         }
         let at = q.place;
         match &q.node {
@@ -371,10 +373,11 @@ impl Ground<'_> {
 
     #[cycle(lowering)]
     fn member_shown(&self, w: &mut Writer, q: &Path, at: Place, by: u32, to: u32, d: u32)
+        requires { leads_through (path_of q.now) ≡ true }
         ensures { Wrote w.old w.new (member_shown (program_in self.now) (locals_in self.now) (path_of q.now) at by to d) }
     {
         if d > GREATEST {
-            return w.fail();
+            return w.fail(NoMemory::unearned());
         }
         match &q.node {
             PathNode::Deref(e) => {
@@ -386,7 +389,7 @@ impl Ground<'_> {
                 self.part(w, ALONE, i.get(), d + 1);
                 self.part(w, self.atom(i.get()), e.get(), d);
             }
-            _ => w.fail(),
+            _ => unreachable!(),
         }
     }
 
@@ -396,13 +399,10 @@ impl Ground<'_> {
         ensures { Wrote w.old w.new (arguments_code (program_in self.now) (locals_in self.now) (expressions_of (map expression_of all.now)) d) }
     {
         if all.len() > (0xFFFF_FFFF - d) as usize {
-            return w.fail();
+            return w.fail(NoMemory::unearned());
         }
         let mut at = d + all.len() as u32;
         for e in all.as_slice().iter().rev() {
-            if at == 0 {
-                return w.fail();
-            }
             at -= 1;
             self.put_test(w, e, at);
             self.value(w, e, at, at);

@@ -1,6 +1,6 @@
 //! The code of functions, and of a program.
 
-ghost use Rattle.std.specs.Prelude.{◌≡◌, ◌++◌, [], IfOk, OnOk, false, map};
+ghost use Rattle.std.specs.Prelude.{◌≡◌, ◌++◌, [], IfOk, None, OnOk, map};
 ghost use Rattle.c_typed.specs.Programs.{data_of, program_data};
 ghost use Rattle.c_meaning.specs.Run.{main_place, numbers};
 ghost use Rattle.tac_ir.specs.Code.{code_of};
@@ -14,7 +14,7 @@ use crate::ground::Ground;
 use crate::ways::{Exit, Exits, ReturnWay};
 use crate::writer::Writer;
 use c_typed::{Function, Local, Typed, loops_within};
-use lay_base::{List, NoMemory, Place, add};
+use lay_base::{List, NoMemory, Place, add, push};
 use source_values::Types;
 use std::alloc::Global;
 use tac_ir::{Parameter, Routine, Step, Tac};
@@ -23,12 +23,12 @@ use tac_ir::{Parameter, Routine, Step, Tac};
 #[tactic(auto, unfolding(crate::specs::Writing::code_in))]
 fn empty(alloc: Global, loops: u32) -> Draft
     ensures code { out_in result ≡ record { code = []; labels = []; texts = []; loops = loops } }
-    ensures fault { result.code.fault ≡ false }
+    ensures want { result.code.want ≡ None }
 {
     Draft {
         code: Writer {
             steps: Vec::new(alloc),
-            fault: false,
+            want: None,
         },
         labels: Vec::new(alloc),
         texts: List::new(alloc),
@@ -44,9 +44,7 @@ fn numbers(alloc: Global, count: u32) -> Result<Vec<u32>, NoMemory>
     let mut all = Vec::new(alloc);
     let mut next = 0;
     while next < count {
-        if all.push(next).is_err() {
-            return Err(NoMemory);
-        }
+        push(&mut all, next)?;
         next += 1;
     }
     Ok(all)
@@ -67,7 +65,7 @@ fn draft(
     let parameters = function.parameters.len();
     let locals = function.locals.len();
     if loops == 0xFFFF_FFFF || parameters > 0x7FFF_FFFF || locals > 0x7FFF_FFFF {
-        return Err(NoMemory);
+        return Err(NoMemory::unearned());
     }
     let ground = Ground {
         alloc,
@@ -86,10 +84,10 @@ fn draft(
     };
     let within = ground.end_scope(&mut draft, &own, x);
     ground.statement(&mut draft, body, within);
-    if draft.code.fault {
-        return Err(NoMemory);
+    match draft.code.want {
+        None => Ok(draft),
+        Some(want) => Err(want),
     }
-    Ok(draft)
 }
 
 fn parameters(alloc: Global, types: &Types<'_>, all: &[Local]) -> Result<List<Parameter>, NoMemory>
@@ -164,7 +162,7 @@ fn routines(alloc: Global, types: &Types<'_>, all: &[Function]) -> Result<List<R
     let mut made = List::new(alloc);
     for (number, function) in all.iter().enumerate() {
         if number > 0xFFFF_FFFF {
-            return Err(NoMemory);
+            return Err(NoMemory::unearned());
         }
         let one = routine(alloc, types, number as u32, function)?;
         add(&mut made, one)?;

@@ -1,6 +1,6 @@
 //! What the code of a function is made from.
 
-ghost use Rattle.std.specs.Prelude.{◌≡◌, ◌++◌, length};
+ghost use Rattle.std.specs.Prelude.{◌≡◌, ◌++◌, ◌<◌, ◌^◌, ◌-◌, length};
 
 use c_typed::Function;
 use source_values::Types;
@@ -15,5 +15,6 @@ pub struct Ground<'a> {
     pub number: u32,
     /// The first temporary behind the locals.
     pub room: u32,
+    ghost few: { room < 2 ^ 32 - 1 },
     ghost behind: { room ≡ length (function.now.parameters ++ function.now.locals) },
 }

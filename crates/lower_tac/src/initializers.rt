@@ -20,9 +20,6 @@ impl Ground<'_> {
     fn put_value(&self, draft: &mut Draft, x: u32, offset: u32, e: &Expression)
         ensures { Drafted draft.old draft.new (put_code (program_in self.now) self.now.number (locals_in self.now) x offset (T.value (expression_of e.now))) }
     {
-        if self.room == 0xFFFF_FFFF {
-            return draft.code.fail();
-        }
         let second = self.room + 1;
         let w = &mut draft.code;
         let access = self.types.row(e.ty).access;
@@ -39,9 +36,6 @@ impl Ground<'_> {
     fn put_record(&self, draft: &mut Draft, x: u32, offset: u32, q: &Path)
         ensures { Drafted draft.old draft.new (put_code (program_in self.now) self.now.number (locals_in self.now) x offset (T.record_of (path_of q.now))) }
     {
-        if self.room == 0xFFFF_FFFF {
-            return draft.code.fail();
-        }
         let second = self.room + 1;
         let w = &mut draft.code;
         match self.named_root(q) {

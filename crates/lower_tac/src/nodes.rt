@@ -22,7 +22,7 @@ use crate::operands::temp;
 use crate::steps::{ALONE, put_no_result, put_result, row, step_op};
 use crate::writer::Writer;
 use c_typed::{BinaryOp, CompareOp, Expression, LibraryFunction, Path, PointerOp, StepOp};
-use lay_base::{List, Place, UndefinedKind};
+use lay_base::{List, NoMemory, Place, UndefinedKind};
 use tac_ir::{Operand, Step, Target};
 
 impl Ground<'_> {
@@ -405,7 +405,7 @@ impl Ground<'_> {
         ensures { Wrote w.old w.new (λ code. S.Call to at f (record { first = d; count = count_of (expressions_of (map expression_of all.now)) }) ∷ code) }
     {
         match row(all, d) {
-            None => w.fail(),
+            None => w.fail(NoMemory::unearned()),
             Some(row) => w.put(Step::Call(to, at, f, row)),
         }
     }
@@ -423,7 +423,7 @@ impl Ground<'_> {
         ensures { Wrote w.old w.new (λ code. S.CallThrough to at (ty (expression_of x.now)) (temp (at_of (expression_of x.now)) held) (record { first = d; count = count_of (expressions_of (map expression_of all.now)) }) ∷ code) }
     {
         match row(all, d) {
-            None => w.fail(),
+            None => w.fail(NoMemory::unearned()),
             Some(row) => w.put(Step::CallThrough(to, at, x.ty, temp(x.place, held), row)),
         }
     }
@@ -440,7 +440,7 @@ impl Ground<'_> {
         ensures { Wrote w.old w.new (λ code. S.Library to at which (record { first = d; count = count_of (expressions_of (map expression_of all.now)) }) ∷ code) }
     {
         match row(all, d) {
-            None => w.fail(),
+            None => w.fail(NoMemory::unearned()),
             Some(row) => w.put(Step::Library(to, at, which, row)),
         }
     }

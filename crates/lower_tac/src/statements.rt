@@ -17,7 +17,7 @@ use crate::steps::ALONE;
 use crate::ways::{Exit, Exits, ReturnWay};
 use crate::writer::Writer;
 use c_typed::{Arm, Expression, Statement};
-use lay_base::{Boxed, List};
+use lay_base::{Boxed, List, push};
 use tac_ir::{Step, Target};
 
 /// The ways out of the arms of a `switch`.
@@ -220,8 +220,8 @@ impl Ground<'_> {
     {
         for arm in all.as_slice().iter().rev() {
             self.statements(draft, &arm.statements, x);
-            if starts.push(draft.here()).is_err() {
-                draft.code.fail();
+            if let Err(want) = push(starts, draft.here()) {
+                draft.code.fail(want);
             }
         }
     }

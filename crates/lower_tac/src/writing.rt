@@ -1,11 +1,12 @@
 //! The steps that are there, and want of memory for more.
 
-ghost use Rattle.std.specs.Prelude.{◌≡◌, ◌∷◌, ◌<◌, ◌^◌, false, true, length, vec_len};
+ghost use Rattle.std.specs.Prelude.{◌≡◌, ◌∷◌, ◌<◌, ◌^◌, Some, length, vec_len};
 ghost use Rattle.tac_ir.specs.declared.step.Step.TheVariants as S;
 ghost use Rattle.tac_ir.specs.declared.step.Target.TheVariants as To;
 ghost use Rattle.lower_tac.specs.Writing.{Wrote, code_in};
 
 use crate::writer::Writer;
+use lay_base::{NoMemory, push};
 use std::alloc::Global;
 use tac_ir::{Operand, Step, Target};
 
@@ -16,19 +17,19 @@ impl Writer {
         ensures { Wrote self.old self.new (λ code. step ∷ code) }
     {
         if self.steps.len() < 0xFFFF_FFFF {
-            if self.steps.push(step).is_err() {
-                self.fault = true;
+            if let Err(want) = push(&mut self.steps, step) {
+                self.fail(want);
             }
         } else {
-            self.fault = true;
+            self.fail(NoMemory::unearned());
         }
     }
 
-    /// More is to be written than 32 bits can number.
-    pub fn fail(&mut self)
-        ensures { self.new.fault ≡ true }
+    /// Something that was to be written found no memory.
+    pub fn fail(&mut self, want: NoMemory)
+        ensures { self.new.want ≡ Some want }
     {
-        self.fault = true;
+        self.want = Some(want);
     }
 
     /// Where the code that is there begins.

@@ -4,15 +4,12 @@ ghost use Rattle.std.specs.Prelude.{◌≡◌, ◌<◌, ◌≤◌, ◌+◌, ◌*
 ghost use Rattle.std.specs.Prelude.{OnOk};
 ghost use Rattle.memory_words.specs.ListPages.Pages.{page_size};
 
-use lay_base::NoMemory;
+use lay_base::{NoMemory, reserve, with_capacity};
 use std::alloc::Global;
 use std::marker::Model;
 
 /// How many items a page has. As a power of two it lets a place be found by a shift and a mask.
 const PAGE: usize = 32_768;
-
-/// More pages than any memory has. Sums of so many items do not overflow.
-const MOST_PAGES: usize = 1 << 29;
 
 /// A list that grows page by page, so that no item is ever moved.
 #[derive(Drop)]
@@ -85,33 +82,25 @@ impl<T: Copy> PagedList<T> {
 
     /// One page more.
     fn add_page(&mut self) -> Result<(), NoMemory>
+        requires { self.old.room < 2 ^ 44 }
         ensures items { self.new.items ≡ self.old.items }
         ensures room { MatchResult result (λ _. self.new.room ≡ self.old.room + page_size) (λ _. self.new.room ≡ self.old.room) }
     {
-        if self.pages.len() >= MOST_PAGES || self.pages.reserve(1).is_err() {
-            return Err(NoMemory);
-        }
-        match Vec::with_capacity(*self.pages.allocator(), PAGE) {
-            Ok(page) => {
-                self.pages.push_reserved(page);
-                Ok(())
-            }
-            Err(_) => Err(NoMemory),
-        }
+        reserve(&mut self.pages, 1)?;
+        let page = with_capacity(*self.pages.allocator(), PAGE)?;
+        self.pages.push_reserved(page);
+        Ok(())
     }
 
     /// Takes the memory for so many items more. Where it is refused, some of the pages may have been added.
     pub fn reserve(&mut self, more: usize) -> Result<(), NoMemory>
+        requires { length self.old.items + more ≤ 2 ^ 44 }
         ensures items { self.new.items ≡ self.old.items }
         ensures kept { self.old.room ≤ self.new.room }
         ensures room { OnOk result (length self.new.items + more ≤ self.new.room) }
         ensures succeeds { length self.old.items + more ≤ self.old.room → IsOk result }
     {
-        let len = self.len();
-        if more > MOST_PAGES * PAGE {
-            return Err(NoMemory);
-        }
-        let pages = (len + more).div_ceil(PAGE);
+        let pages = (self.len() + more).div_ceil(PAGE);
         while self.page_count() < pages {
             self.add_page()?;
         }
@@ -141,6 +130,7 @@ impl<T: Copy> PagedList<T> {
 
     /// Adds so many copies of an item behind the last one.
     pub fn add(&mut self, count: usize, value: T) -> Result<(), NoMemory>
+        requires { length self.old.items + count ≤ 2 ^ 44 }
         ensures items { MatchResult result (λ _. self.new.items ≡ self.old.items ++ replicate count value) (λ _. self.new.items ≡ self.old.items) }
         ensures room { self.old.room ≤ self.new.room }
         ensures succeeds { length self.old.items + count ≤ self.old.room → IsOk result }

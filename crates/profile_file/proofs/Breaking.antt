@@ -272,4 +272,4 @@ read_gives bytes text fs line rest (Ok c) e a h =
     is_whole bytes text c line rest (after_taken (codes "layc-profile 1\n") bytes text e) (subst (λ gs. AreFunctions text gs line rest) (sym h.0) a.are) h.1
 read_gives bytes text fs line rest (Err (BadProfile number)) e a h =
     end_fault bytes text fs line number rest (after (codes "end\n") rest) (after_taken (codes "layc-profile 1\n") bytes text e) a refl h
-read_gives bytes text fs line rest (Err Memory) e a h = absurd h
+read_gives bytes text fs line rest (Err (Memory want)) e a h = absurd h

@@ -29,4 +29,4 @@ pub record BreaksAt (line : ℕ) (bytes : List ℕ) : Type 0 where
 abbrev pub ReadGives : Result Counts ProfileFault → List ℕ → Type 0
 ReadGives (Ok c) bytes = IsProfile c × (profile_text c ≡ bytes)
 ReadGives (Err (BadProfile line)) bytes = BreaksAt line bytes
-ReadGives (Err Memory) bytes = Unit {0}
+ReadGives (Err (Memory want)) bytes = Unit {0}

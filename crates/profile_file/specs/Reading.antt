@@ -102,4 +102,4 @@ EndFault number line (Some (b ∷ more)) = number ≡ line + 1
 abbrev pub EndGives : Result Counts ProfileFault → (functions : List FunCount) → (line : ℕ) → (rest : List ℕ) → Type 0
 EndGives (Ok c) functions line rest = (c.functions ≡ functions) × (after (codes "end\n") rest ≡ Some [])
 EndGives (Err (BadProfile number)) functions line rest = EndFault number line (after (codes "end\n") rest)
-EndGives (Err Memory) functions line rest = ⊥
+EndGives (Err (Memory want)) functions line rest = ⊥

@@ -1,5 +1,6 @@
 //! Why bytes are refused as a profile.
 
+use lay_base::NoMemory;
 use thiserror::Error;
 
 /// Why bytes are not read as counts.
@@ -10,5 +11,5 @@ pub enum ProfileFault {
     BadProfile(u32),
     /// No memory was left.
     #[error("out of memory")]
-    Memory,
+    Memory(NoMemory),
 }

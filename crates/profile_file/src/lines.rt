@@ -5,7 +5,7 @@ ghost use Rattle.profile_file.specs.Reading.{AreLoops, IsFunction, function_at, 
 
 use crate::numbers::{after, count_at, name_at};
 use c_typed::FunCount;
-use lay_base::{List, Name, NoMemory, add};
+use lay_base::{List, Name, NoMemory, add, copied};
 use std::alloc::Global;
 
 fn loop_at(text: &[u8]) -> Option<(u64, &[u8])>
@@ -43,7 +43,7 @@ fn counted<'a>(
 ) -> Result<(FunCount, &'a [u8]), NoMemory>
     ensures { IfOk result (λ found. (found.0.name ≡ name.now) × (found.0.entries ≡ entries) × AreLoops rest.now found.0.loops found.1.now) }
 {
-    let name = Name::of(name.to_vec(alloc).map_err(|_| NoMemory)?);
+    let name = Name::of(copied(alloc, name)?);
     let (loops, rest) = read_loops(alloc, rest)?;
     let count = FunCount {
         name,

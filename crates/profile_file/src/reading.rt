@@ -58,6 +58,6 @@ pub fn read(alloc: Global, bytes: &[u8]) -> Result<Counts, ProfileFault>
     };
     match read_functions(alloc, text) {
         Ok((functions, line, rest)) => counts_before(functions, line, rest),
-        Err(_) => Err(ProfileFault::Memory),
+        Err(want) => Err(ProfileFault::Memory(want)),
     }
 }

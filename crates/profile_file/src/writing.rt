@@ -5,27 +5,21 @@ ghost use Rattle.profile_file.specs.Text.{ended, first_line, function_lines, las
 
 use c_typed::{Counts, FunCount};
 use itoa::Buffer;
-use lay_base::NoMemory;
+use lay_base::{NoMemory, append};
 use std::alloc::Global;
-
-fn put(out: &mut Vec<u8>, piece: &[u8]) -> Result<(), NoMemory>
-    ensures { OnOk result (out.new.items ≡ out.old.items ++ piece.now) }
-{
-    out.extend_from_slice(piece).map_err(|_| NoMemory)
-}
 
 fn put_number(out: &mut Vec<u8>, n: u64) -> Result<(), NoMemory>
     ensures { OnOk result (out.new.items ≡ out.old.items ++ decimal n ++ 10 ∷ []) }
 {
     let mut buffer = Buffer::new();
-    put(out, buffer.format(n).as_bytes())?;
-    put(out, b"\n")
+    append(out, buffer.format(n).as_bytes())?;
+    append(out, b"\n")
 }
 
 fn put_loop(out: &mut Vec<u8>, n: u64) -> Result<(), NoMemory>
     ensures { OnOk result (out.new.items ≡ out.old.items ++ ended (loop_line n)) }
 {
-    put(out, b"loop ")?;
+    append(out, b"loop ")?;
     put_number(out, n)
 }
 
@@ -41,9 +35,9 @@ fn put_loops(out: &mut Vec<u8>, loops: &[u64]) -> Result<(), NoMemory>
 fn put_function(out: &mut Vec<u8>, f: &FunCount) -> Result<(), NoMemory>
     ensures { OnOk result (out.new.items ≡ out.old.items ++ text_of (function_lines f.now)) }
 {
-    put(out, b"fun ")?;
-    put(out, f.name.as_slice())?;
-    put(out, b" ")?;
+    append(out, b"fun ")?;
+    append(out, f.name.as_slice())?;
+    append(out, b" ")?;
     put_number(out, f.entries)?;
     put_loops(out, f.loops.as_slice())
 }
@@ -62,9 +56,9 @@ fn pieces(alloc: Global, c: &Counts) -> Result<Vec<u8>, NoMemory>
     ensures { IfOk result (λ text. text.items ≡ ended first_line ++ (flat_map (λ f. text_of (function_lines f)) c.now.functions ++ ended last_line)) }
 {
     let mut out = Vec::new(alloc);
-    put(&mut out, b"layc-profile 1\n")?;
+    append(&mut out, b"layc-profile 1\n")?;
     put_functions(&mut out, c.functions.as_slice())?;
-    put(&mut out, b"end\n")?;
+    append(&mut out, b"end\n")?;
     Ok(out)
 }
 

@@ -10,7 +10,7 @@ use Rattle.refusals.specs.declared.refusal.Refusal.{Refusal}
 use Rattle.refusals.specs.declared.refusal.Refusal.TheVariants.{BadByte, BadLiteral, Unclosed, TooWide, NoParse, Unsupported, TooBig, IllTyped}
 use Rattle.refusals.specs.declared.refusal.Refusal.TheVariants.{Undeclared, Redeclared, Missing, Twice, TagClash, NoMain, Limit, Undefined, TurnLimit}
 use Rattle.refusals.specs.declared.refusal.Refusal.TheVariants.{Room, ReadFault, WriteFault, BadProfile, Stale, BadElf, Trap, Break, StepLimit, Usage}
-use Rattle.refusals.specs.declared.refusal.Refusal.TheVariants.{FileFault, TooLong, Memory, NameClash, NotBuilt}
+use Rattle.refusals.specs.declared.refusal.Refusal.TheVariants.{FileFault, TooLong, Memory, Unread, NameClash, NotBuilt}
 use Rattle.lay_base.specs.Keywords.{keyword_text}
 use Rattle.refusals.specs.Names.{rule_name, limit_name, room_name, undefined_name, trap_name, field_name}
 
@@ -49,7 +49,8 @@ numbers (StepLimit steps) = (27, 126)
 numbers Usage = (28, 120)
 numbers (FileFault name) = (29, 121)
 numbers (TooLong name) = (30, 121)
-numbers Memory = (31, 127)
+numbers (Memory want) = (31, 127)
+numbers Unread = (31, 127)
 numbers (NameClash name place earlier) = (32, 122)
 numbers (NotBuilt name) = (33, 122)
 
@@ -132,7 +133,8 @@ refusal_text at first (StepLimit steps) = line (codes "step limit " ∷ decimal 
 refusal_text at first Usage = usage
 refusal_text at first (FileFault name) = line (codes "cannot read " ∷ name ∷ [])
 refusal_text at first (TooLong name) = line (name ∷ codes " is too long" ∷ [])
-refusal_text at first Memory = line (codes "out of memory" ∷ [])
+refusal_text at first (Memory want) = line (codes "out of memory" ∷ [])
+refusal_text at first Unread = line (codes "out of memory" ∷ [])
 refusal_text at first (NameClash name place earlier) = line_at at (codes "type of " ∷ name ∷ codes " differs from " ∷ first ∷ [])
 refusal_text at first (NotBuilt name) = line (name ∷ codes ": form not built yet" ∷ [])
 

@@ -100,7 +100,7 @@ fn put_without_place<E: Sink>(err: &mut E, refusal: &Refusal) -> Result<(), Sink
         Refusal::NoMain => put_line(err, &[b"no function main"]),
         Refusal::ReadFault => put_line(err, &[b"read failed"]),
         Refusal::WriteFault => put_line(err, &[b"write failed"]),
-        Refusal::Memory => put_line(err, &[b"out of memory"]),
+        Refusal::Memory(_) | Refusal::Unread => put_line(err, &[b"out of memory"]),
         Refusal::Usage => put_usage(err),
         Refusal::Missing(name) => put_line(err, &[b"no definition of ", name.as_slice()]),
         Refusal::FileFault(name) => put_line(err, &[b"cannot read ", name.as_slice()]),

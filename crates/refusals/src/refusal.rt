@@ -67,7 +67,9 @@ pub enum Refusal {
     /// A file that is longer than its limit.
     TooLong(Name),
     /// No memory was left.
-    Memory,
+    Memory(NoMemory),
+    /// No memory was left for reading the words, as the reader of the command line says.
+    Unread,
     /// A name that has two types.
     NameClash(Name, Place, Place),
     /// A file whose form the compiler does not take yet.
@@ -78,9 +80,9 @@ impl From<NoMemory> for Refusal {
     ghost use Rattle.std.specs.Prelude.{◌≡◌};
     ghost use Rattle.refusals.specs.declared.refusal.Refusal.TheVariants.{Memory};
 
-    ghost from_gives = { λ _ refusal. refusal ≡ Memory };
+    ghost from_gives = { λ want refusal. refusal ≡ Memory want };
 
-    fn from(_: NoMemory) -> Refusal {
-        Refusal::Memory
+    fn from(want: NoMemory) -> Refusal {
+        Refusal::Memory(want)
     }
 }

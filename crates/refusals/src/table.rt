@@ -53,7 +53,7 @@ fn numbers(refusal: &Refusal) -> (u8, u8)
         Refusal::Usage => (28, 120),
         Refusal::FileFault(_) => (29, 121),
         Refusal::TooLong(_) => (30, 121),
-        Refusal::Memory => (31, 127),
+        Refusal::Memory(_) | Refusal::Unread => (31, 127),
         Refusal::NameClash(..) => (32, 122),
         Refusal::NotBuilt(_) => (33, 122),
     }

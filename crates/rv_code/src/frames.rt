@@ -6,7 +6,7 @@ ghost use Rattle.rv_code.specs.Programs.{frame_alone};
 ghost use Rattle.tac_ir.specs.Code.{data_of};
 
 use crate::layout::Layout;
-use lay_base::{List, NoMemory};
+use lay_base::{List, NoMemory, filled, push};
 use std::alloc::Global;
 use tac_ir::{Parameter, Routine, Step};
 
@@ -25,10 +25,7 @@ fn raise(sizes: &mut Vec<u32>, x: usize, size: u32)
 fn no_sizes(alloc: Global, locals: usize) -> Result<Vec<u32>, NoMemory>
     ensures { IfOk result (λ sizes. sizes.items ≡ replicate locals 0) }
 {
-    match vec![in alloc; 0; locals] {
-        Ok(sizes) => Ok(sizes),
-        Err(_) => Err(NoMemory),
-    }
+    filled(alloc, 0, locals)
 }
 
 fn block_size(r: Parameter) -> u32
@@ -121,9 +118,7 @@ pub fn places(alloc: Global, sizes: &[u32], at: u64) -> Result<(Vec<u32>, u64), 
     let mut places = Vec::new(alloc);
     let mut at = at;
     for size in sizes {
-        if places.push(at as u32).is_err() {
-            return Err(NoMemory);
-        }
+        push(&mut places, at as u32)?;
         at += (u64::from(*size) + 3) / 4 * 4;
     }
     Ok((places, at))

@@ -12,15 +12,15 @@ use crate::steps::{entry_at, give, step};
 use crate::words::{fetch, keep, number};
 use block_memory::Access;
 use c_types::IntKind;
-use lay_base::{Bytes, List, NoMemory};
+use lay_base::{Bytes, List, NoMemory, append, push};
 use rv_isa::Inst;
-use std::alloc::{AllocError, Global};
+use std::alloc::Global;
 use tac_ir::{Parameter, Routine};
 
 const STACK: u64 = 0x1000_0000;
 
 /// An argument in x5 comes to its parameter.
-fn parameter(code: &mut Vec<Inst>, l: &Layout, x: u32, r: Parameter) -> Result<(), AllocError>
+fn parameter(code: &mut Vec<Inst>, l: &Layout, x: u32, r: Parameter) -> Result<(), NoMemory>
     ensures { OnOk result (code.new.items ≡ code.old.items ++ parameter_code l.now x r) }
 {
     if r.block {
@@ -31,7 +31,7 @@ fn parameter(code: &mut Vec<Inst>, l: &Layout, x: u32, r: Parameter) -> Result<(
 }
 
 /// The arguments come from the row of words at x10.
-fn parameters(code: &mut Vec<Inst>, l: &Layout, all: &[Parameter]) -> Result<(), AllocError>
+fn parameters(code: &mut Vec<Inst>, l: &Layout, all: &[Parameter]) -> Result<(), NoMemory>
     requires { length all.now < 2 ^ 32 }
     ensures { OnOk result (code.new.items ≡ code.old.items ++ parameters_code l.now 0 all.now) }
 {
@@ -43,25 +43,31 @@ fn parameters(code: &mut Vec<Inst>, l: &Layout, all: &[Parameter]) -> Result<(),
 }
 
 /// The beginning of a function.
-fn enter(code: &mut Vec<Inst>, l: &Layout, all: &[Parameter]) -> Result<(), AllocError>
+fn enter(code: &mut Vec<Inst>, l: &Layout, all: &[Parameter]) -> Result<(), NoMemory>
     requires { length all.now < 2 ^ 32 }
     ensures { OnOk result (code.new.items ≡ code.old.items ++ entry_code l.now all.now) }
 {
     number(code, 5, STACK + u64::from(l.size))?;
-    code.extend_from_slice(&[
-        Inst::Bgeu {
+    append(
+        code,
+        &[
+            Inst::Bgeu {
+                rs1: 2,
+                rs2: 5,
+                imm: 8,
+            },
+            Inst::Ebreak,
+        ],
+    )?;
+    number(code, 5, u64::from(l.size))?;
+    append(
+        code,
+        &[Inst::Sub {
+            rd: 2,
             rs1: 2,
             rs2: 5,
-            imm: 8,
-        },
-        Inst::Ebreak,
-    ])?;
-    number(code, 5, u64::from(l.size))?;
-    code.extend_from_slice(&[Inst::Sub {
-        rd: 2,
-        rs1: 2,
-        rs2: 5,
-    }])?;
+        }],
+    )?;
     keep(code, Access::Number(IntKind::Int), 1, 2, 0)?;
     parameters(code, l, all)
 }
@@ -73,7 +79,7 @@ pub(crate) fn function(
     p: &Places,
     g: &Routine,
     l: &Layout,
-) -> Result<(), AllocError>
+) -> Result<(), NoMemory>
     requires { length g.now.parameters < 2 ^ 32 }
     ensures { OnOk result (code.new.items ≡ code.old.items ++ function_code p.now (data_of g.now) l.now) }
 {
@@ -106,15 +112,12 @@ fn behind(alloc: Global, g: &Routine, frame: &Layout) -> Result<(Vec<u32>, u32),
     let mut words: u32 = 0;
     for s in g.code.as_slice() {
         code.clear();
-        if sums.push(words).is_err() || step(&mut code, &nowhere, g, frame, *s).is_err() {
-            return Err(NoMemory);
-        }
+        push(&mut sums, words)?;
+        step(&mut code, &nowhere, g, frame, *s)?;
         words += code.len() as u32;
     }
-    match sums.push(words) {
-        Ok(()) => Ok((sums, words)),
-        Err(_) => Err(NoMemory),
-    }
+    push(&mut sums, words)?;
+    Ok((sums, words))
 }
 
 /// How many words the beginning of a function takes.
@@ -124,10 +127,8 @@ fn entry_words(alloc: Global, g: &Routine, frame: &Layout) -> Result<u32, NoMemo
     ensures { IfOk result (λ words. words ≡ length (entry_code frame.now g.now.parameters)) }
 {
     let mut code = Vec::new(alloc);
-    match enter(&mut code, frame, g.parameters.as_slice()) {
-        Ok(()) => Ok(code.len() as u32),
-        Err(_) => Err(NoMemory),
-    }
+    enter(&mut code, frame, g.parameters.as_slice())?;
+    Ok(code.len() as u32)
 }
 
 /// How many words the code of a function takes, whose steps take so many.
@@ -151,9 +152,7 @@ fn lengths(alloc: Global, texts: &[Bytes]) -> Result<Vec<u32>, NoMemory>
 {
     let mut lengths = Vec::new(alloc);
     for bytes in texts {
-        if lengths.push(bytes.len() as u32).is_err() {
-            return Err(NoMemory);
-        }
+        push(&mut lengths, bytes.len() as u32)?;
     }
     Ok(lengths)
 }

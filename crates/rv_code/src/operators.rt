@@ -6,88 +6,112 @@ ghost use Rattle.rv_code.specs.Operators.{binary_code, compare_code, convert_cod
 use crate::words::number;
 use c_typed::{BinaryOp, CompareOp, PointerOp, UnaryOp, is_signed};
 use c_types::IntKind;
+use lay_base::{NoMemory, append};
 use rv_isa::Inst;
-use std::alloc::AllocError;
 
-pub(crate) fn unary(code: &mut Vec<Inst>, op: UnaryOp) -> Result<(), AllocError>
+pub(crate) fn unary(code: &mut Vec<Inst>, op: UnaryOp) -> Result<(), NoMemory>
     ensures { OnOk result (code.new.items ≡ code.old.items ++ unary_code op) }
 {
     match op {
         UnaryOp::Plus => Ok(()),
-        UnaryOp::Minus => code.extend_from_slice(&[Inst::Sub {
-            rd: 5,
-            rs1: 0,
-            rs2: 5,
-        }]),
-        UnaryOp::Complement => code.extend_from_slice(&[Inst::Xori {
-            rd: 5,
-            rs1: 5,
-            imm: -1,
-        }]),
+        UnaryOp::Minus => append(
+            code,
+            &[Inst::Sub {
+                rd: 5,
+                rs1: 0,
+                rs2: 5,
+            }],
+        ),
+        UnaryOp::Complement => append(
+            code,
+            &[Inst::Xori {
+                rd: 5,
+                rs1: 5,
+                imm: -1,
+            }],
+        ),
     }
 }
 
-pub(crate) fn not(code: &mut Vec<Inst>) -> Result<(), AllocError>
+pub(crate) fn not(code: &mut Vec<Inst>) -> Result<(), NoMemory>
     ensures { OnOk result (code.new.items ≡ code.old.items ++ not_code) }
 {
-    code.extend_from_slice(&[Inst::Sltiu {
-        rd: 5,
-        rs1: 5,
-        imm: 1,
-    }])
+    append(
+        code,
+        &[Inst::Sltiu {
+            rd: 5,
+            rs1: 5,
+            imm: 1,
+        }],
+    )
 }
 
 /// The conversion to a kind of numbers.
-pub(crate) fn convert(code: &mut Vec<Inst>, kind: IntKind) -> Result<(), AllocError>
+pub(crate) fn convert(code: &mut Vec<Inst>, kind: IntKind) -> Result<(), NoMemory>
     ensures { OnOk result (code.new.items ≡ code.old.items ++ convert_code kind) }
 {
     match kind {
-        IntKind::Char => code.extend_from_slice(&[Inst::Andi {
-            rd: 5,
-            rs1: 5,
-            imm: 255,
-        }]),
-        IntKind::SChar => code.extend_from_slice(&[
-            Inst::Slli {
+        IntKind::Char => append(
+            code,
+            &[Inst::Andi {
                 rd: 5,
                 rs1: 5,
-                imm: 24,
-            },
-            Inst::Srai {
+                imm: 255,
+            }],
+        ),
+        IntKind::SChar => append(
+            code,
+            &[
+                Inst::Slli {
+                    rd: 5,
+                    rs1: 5,
+                    imm: 24,
+                },
+                Inst::Srai {
+                    rd: 5,
+                    rs1: 5,
+                    imm: 24,
+                },
+            ],
+        ),
+        IntKind::UChar => append(
+            code,
+            &[Inst::Andi {
                 rd: 5,
                 rs1: 5,
-                imm: 24,
-            },
-        ]),
-        IntKind::UChar => code.extend_from_slice(&[Inst::Andi {
-            rd: 5,
-            rs1: 5,
-            imm: 255,
-        }]),
-        IntKind::Short => code.extend_from_slice(&[
-            Inst::Slli {
-                rd: 5,
-                rs1: 5,
-                imm: 16,
-            },
-            Inst::Srai {
-                rd: 5,
-                rs1: 5,
-                imm: 16,
-            },
-        ]),
-        IntKind::UShort => code.extend_from_slice(&[
-            Inst::Slli {
-                rd: 5,
-                rs1: 5,
-                imm: 16,
-            },
-            Inst::Srli {
-                rd: 5,
-                rs1: 5,
-                imm: 16,
-            },
-        ]),
+                imm: 255,
+            }],
+        ),
+        IntKind::Short => append(
+            code,
+            &[
+                Inst::Slli {
+                    rd: 5,
+                    rs1: 5,
+                    imm: 16,
+                },
+                Inst::Srai {
+                    rd: 5,
+                    rs1: 5,
+                    imm: 16,
+                },
+            ],
+        ),
+        IntKind::UShort => append(
+            code,
+            &[
+                Inst::Slli {
+                    rd: 5,
+                    rs1: 5,
+                    imm: 16,
+                },
+                Inst::Srli {
+                    rd: 5,
+                    rs1: 5,
+                    imm: 16,
+                },
+            ],
+        ),
         _ => Ok(()),
     }
 }
@@ -198,7 +222,7 @@ fn less(kind: IntKind, left: u8, right: u8) -> Inst
     }
 }
 
-pub(crate) fn compare(code: &mut Vec<Inst>, op: CompareOp, kind: IntKind) -> Result<(), AllocError>
+pub(crate) fn compare(code: &mut Vec<Inst>, op: CompareOp, kind: IntKind) -> Result<(), NoMemory>
     ensures { OnOk result (code.new.items ≡ code.old.items ++ compare_code op kind) }
 {
     let difference = Inst::Sub {
@@ -206,32 +230,28 @@ pub(crate) fn compare(code: &mut Vec<Inst>, op: CompareOp, kind: IntKind) -> Res
         rs1: 5,
         rs2: 6,
     };
+    let none = Inst::Sltiu {
+        rd: 5,
+        rs1: 5,
+        imm: 1,
+    };
+    let some = Inst::Sltu {
+        rd: 5,
+        rs1: 0,
+        rs2: 5,
+    };
     let opposite = Inst::Xori {
         rd: 5,
         rs1: 5,
         imm: 1,
     };
     match op {
-        CompareOp::Equal => code.extend_from_slice(&[
-            difference,
-            Inst::Sltiu {
-                rd: 5,
-                rs1: 5,
-                imm: 1,
-            },
-        ]),
-        CompareOp::NotEqual => code.extend_from_slice(&[
-            difference,
-            Inst::Sltu {
-                rd: 5,
-                rs1: 0,
-                rs2: 5,
-            },
-        ]),
-        CompareOp::Less => code.extend_from_slice(&[less(kind, 5, 6)]),
-        CompareOp::Greater => code.extend_from_slice(&[less(kind, 6, 5)]),
-        CompareOp::LessEqual => code.extend_from_slice(&[less(kind, 6, 5), opposite]),
-        CompareOp::GreaterEqual => code.extend_from_slice(&[less(kind, 5, 6), opposite]),
+        CompareOp::Equal => append(code, &[difference, none]),
+        CompareOp::NotEqual => append(code, &[difference, some]),
+        CompareOp::Less => append(code, &[less(kind, 5, 6)]),
+        CompareOp::Greater => append(code, &[less(kind, 6, 5)]),
+        CompareOp::LessEqual => append(code, &[less(kind, 6, 5), opposite]),
+        CompareOp::GreaterEqual => append(code, &[less(kind, 5, 6), opposite]),
     }
 }
 
@@ -336,24 +356,30 @@ pub(crate) fn skip_unless_true(when: bool) -> Inst
 }
 
 /// A number of elements as one of bytes.
-pub(crate) fn scale(code: &mut Vec<Inst>, size: u32) -> Result<(), AllocError>
+pub(crate) fn scale(code: &mut Vec<Inst>, size: u32) -> Result<(), NoMemory>
     ensures { OnOk result (code.new.items ≡ code.old.items ++ scale_code size) }
 {
     if size == 1 {
         Ok(())
     } else if size == 4 {
-        code.extend_from_slice(&[Inst::Slli {
-            rd: 6,
-            rs1: 6,
-            imm: 2,
-        }])
+        append(
+            code,
+            &[Inst::Slli {
+                rd: 6,
+                rs1: 6,
+                imm: 2,
+            }],
+        )
     } else {
         number(code, 7, u64::from(size))?;
-        code.extend_from_slice(&[Inst::Mul {
-            rd: 6,
-            rs1: 6,
-            rs2: 7,
-        }])
+        append(
+            code,
+            &[Inst::Mul {
+                rd: 6,
+                rs1: 6,
+                rs2: 7,
+            }],
+        )
     }
 }
 
@@ -375,48 +401,60 @@ fn pointer_step(op: PointerOp) -> Inst
 }
 
 /// A pointer moves by elements.
-pub(crate) fn move_by(code: &mut Vec<Inst>, op: PointerOp, size: u32) -> Result<(), AllocError>
+pub(crate) fn move_by(code: &mut Vec<Inst>, op: PointerOp, size: u32) -> Result<(), NoMemory>
     ensures { OnOk result (code.new.items ≡ code.old.items ++ move_code op size) }
 {
     scale(code, size)?;
-    code.extend_from_slice(&[pointer_step(op)])
+    append(code, &[pointer_step(op)])
 }
 
 /// A pointer moves on by bytes.
-pub(crate) fn offset(code: &mut Vec<Inst>, by: u32) -> Result<(), AllocError>
+pub(crate) fn offset(code: &mut Vec<Inst>, by: u32) -> Result<(), NoMemory>
     ensures { OnOk result (code.new.items ≡ code.old.items ++ offset_code by) }
 {
     if by == 0 {
         Ok(())
     } else if by < 2048 {
-        code.extend_from_slice(&[Inst::Addi {
-            rd: 5,
-            rs1: 5,
-            imm: by as i32,
-        }])
+        append(
+            code,
+            &[Inst::Addi {
+                rd: 5,
+                rs1: 5,
+                imm: by as i32,
+            }],
+        )
     } else {
         number(code, 6, u64::from(by))?;
-        code.extend_from_slice(&[Inst::Add {
-            rd: 5,
-            rs1: 5,
-            rs2: 6,
-        }])
+        append(
+            code,
+            &[Inst::Add {
+                rd: 5,
+                rs1: 5,
+                rs2: 6,
+            }],
+        )
     }
 }
 
 /// The number of elements between two pointers.
-pub(crate) fn distance(code: &mut Vec<Inst>, size: u32) -> Result<(), AllocError>
+pub(crate) fn distance(code: &mut Vec<Inst>, size: u32) -> Result<(), NoMemory>
     ensures { OnOk result (code.new.items ≡ code.old.items ++ distance_code size) }
 {
-    code.extend_from_slice(&[Inst::Sub {
-        rd: 5,
-        rs1: 5,
-        rs2: 6,
-    }])?;
+    append(
+        code,
+        &[Inst::Sub {
+            rd: 5,
+            rs1: 5,
+            rs2: 6,
+        }],
+    )?;
     number(code, 6, u64::from(size))?;
-    code.extend_from_slice(&[Inst::Div {
-        rd: 5,
-        rs1: 5,
-        rs2: 6,
-    }])
+    append(
+        code,
+        &[Inst::Div {
+            rd: 5,
+            rs1: 5,
+            rs2: 6,
+        }],
+    )
 }

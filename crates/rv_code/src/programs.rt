@@ -8,31 +8,37 @@ use crate::functions::{function, layout};
 use crate::layout::{Layout, Places};
 use crate::steps::entry_at;
 use crate::words::call;
-use lay_base::{List, NoMemory};
+use lay_base::{List, NoMemory, append, push};
 use rv_isa::Inst;
-use std::alloc::{AllocError, Global};
+use std::alloc::Global;
 use tac_ir::{Routine, Tac};
 
 /// Where the first function begins, behind the code that calls `main`.
 const FIRST: u32 = 0x0001_1014;
 
 /// `main` is called on an empty stack, and its value is the status.
-fn start(code: &mut Vec<Inst>, stack_end: u32, main: u64) -> Result<(), AllocError>
+fn start(code: &mut Vec<Inst>, stack_end: u32, main: u64) -> Result<(), NoMemory>
     ensures { OnOk result (code.new.items ≡ code.old.items ++ start_code stack_end main) }
 {
-    code.extend_from_slice(&[Inst::Lui {
-        rd: 2,
-        imm: stack_end / 4096,
-    }])?;
+    append(
+        code,
+        &[Inst::Lui {
+            rd: 2,
+            imm: stack_end / 4096,
+        }],
+    )?;
     call(code, main)?;
-    code.extend_from_slice(&[
-        Inst::Addi {
-            rd: 17,
-            rs1: 0,
-            imm: 93,
-        },
-        Inst::Ecall,
-    ])
+    append(
+        code,
+        &[
+            Inst::Addi {
+                rd: 17,
+                rs1: 0,
+                imm: 93,
+            },
+            Inst::Ecall,
+        ],
+    )
 }
 
 /// The layouts of functions, and their entries.
@@ -54,14 +60,10 @@ fn layouts(
     let mut texts = texts;
     for g in routines {
         let (made, end) = layout(alloc, g, at, texts)?;
-        if entries.push(at).is_err() {
-            return Err(NoMemory);
-        }
+        push(&mut entries, at)?;
         at = made.end;
         texts = end;
-        if layouts.push(made).is_err() {
-            return Err(NoMemory);
-        }
+        push(&mut layouts, made)?;
     }
     Ok((layouts, entries))
 }
@@ -73,7 +75,7 @@ fn functions(
     p: &Places,
     routines: &[Routine],
     layouts: &[Layout],
-) -> Result<(), AllocError>
+) -> Result<(), NoMemory>
     requires small { All (λ g. IsSmall (data_of g)) routines.now }
     requires each { length layouts.now ≡ length routines.now }
     ensures { OnOk result (code.new.items ≡ code.old.items ++ functions_code p.now (map data_of routines.now) layouts.now) }
@@ -106,10 +108,7 @@ pub fn program(
     };
     let mut code = Vec::new(alloc);
     let main = entry_at(places.entries.as_slice(), t.main);
-    if start(&mut code, stack_end, main).is_err()
-        || functions(&mut code, &places, routines, layouts.as_slice()).is_err()
-    {
-        return Err(NoMemory);
-    }
+    start(&mut code, stack_end, main)?;
+    functions(&mut code, &places, routines, layouts.as_slice())?;
     Ok((code, places))
 }

@@ -16,8 +16,8 @@ use crate::words::{address, call, fetch, jump, keep, load_by, number, place, sto
 use block_memory::Access;
 use c_typed::{BinaryOp, LibraryFunction, PointerOp, is_shift, promoted_kind};
 use c_types::IntKind;
+use lay_base::{NoMemory, append};
 use rv_isa::Inst;
-use std::alloc::AllocError;
 use tac_ir::{Operand, Routine, Row, Sort, Step, Target};
 
 /// The runtime's routines (each at a place of its own).
@@ -64,13 +64,7 @@ fn is_block(g: &Routine, t: u32) -> bool
 }
 
 /// A temporary comes into a register; a local that lies in a block as the block's address.
-fn temporary(
-    code: &mut Vec<Inst>,
-    g: &Routine,
-    l: &Layout,
-    rd: u8,
-    t: u32,
-) -> Result<(), AllocError>
+fn temporary(code: &mut Vec<Inst>, g: &Routine, l: &Layout, rd: u8, t: u32) -> Result<(), NoMemory>
     ensures { OnOk result (code.new.items ≡ code.old.items ++ temporary_code (data_of g.now) l.now rd t) }
 {
     if is_block(g, t) {
@@ -88,7 +82,7 @@ fn get(
     l: &Layout,
     rd: u8,
     a: Operand,
-) -> Result<(), AllocError>
+) -> Result<(), NoMemory>
     ensures { OnOk result (code.new.items ≡ code.old.items ++ get_code p.now (data_of g.now) l.now rd a) }
 {
     match a {
@@ -108,7 +102,7 @@ fn both(
     l: &Layout,
     a: Operand,
     b: Operand,
-) -> Result<(), AllocError>
+) -> Result<(), NoMemory>
     ensures { OnOk result (code.new.items ≡ code.old.items ++ both_code p.now (data_of g.now) l.now a b) }
 {
     get(code, p, g, l, 5, a)?;
@@ -116,7 +110,7 @@ fn both(
 }
 
 /// A temporary gets what is in a register.
-pub(crate) fn give(code: &mut Vec<Inst>, t: u32, rs: u8) -> Result<(), AllocError>
+pub(crate) fn give(code: &mut Vec<Inst>, t: u32, rs: u8) -> Result<(), NoMemory>
     ensures { OnOk result (code.new.items ≡ code.old.items ++ give_code t rs) }
 {
     keep(
@@ -129,14 +123,14 @@ pub(crate) fn give(code: &mut Vec<Inst>, t: u32, rs: u8) -> Result<(), AllocErro
 }
 
 /// The address of a row of temporaries comes into x10.
-fn row(code: &mut Vec<Inst>, all: Row) -> Result<(), AllocError>
+fn row(code: &mut Vec<Inst>, all: Row) -> Result<(), NoMemory>
     ensures { OnOk result (code.new.items ≡ code.old.items ++ row_code all) }
 {
     address(code, 10, 2, slot_at(u64::from(all.first)))
 }
 
 /// The first temporary of a row comes into x10.
-fn one(code: &mut Vec<Inst>, first: u64) -> Result<(), AllocError>
+fn one(code: &mut Vec<Inst>, first: u64) -> Result<(), NoMemory>
     requires { first < 2 ^ 32 }
     ensures { OnOk result (code.new.items ≡ code.old.items ++ one_code first) }
 {
@@ -144,7 +138,7 @@ fn one(code: &mut Vec<Inst>, first: u64) -> Result<(), AllocError>
 }
 
 /// The first two come into x10 and x11.
-fn two(code: &mut Vec<Inst>, first: u64) -> Result<(), AllocError>
+fn two(code: &mut Vec<Inst>, first: u64) -> Result<(), NoMemory>
     requires { first < 2 ^ 32 }
     ensures { OnOk result (code.new.items ≡ code.old.items ++ two_code first) }
 {
@@ -153,7 +147,7 @@ fn two(code: &mut Vec<Inst>, first: u64) -> Result<(), AllocError>
 }
 
 /// The first three come into x10 to x12.
-fn three(code: &mut Vec<Inst>, first: u64) -> Result<(), AllocError>
+fn three(code: &mut Vec<Inst>, first: u64) -> Result<(), NoMemory>
     requires { first < 2 ^ 32 }
     ensures { OnOk result (code.new.items ≡ code.old.items ++ three_code first) }
 {
@@ -179,7 +173,7 @@ fn place_led(g: &Routine, l: &Layout, to: Target) -> u64
 }
 
 /// A call of a routine, whose answer a temporary gets.
-fn answer(code: &mut Vec<Inst>, place: u64, t: u32) -> Result<(), AllocError>
+fn answer(code: &mut Vec<Inst>, place: u64, t: u32) -> Result<(), NoMemory>
     ensures { OnOk result (code.new.items ≡ code.old.items ++ answer_code place t) }
 {
     call(code, place)?;
@@ -187,104 +181,105 @@ fn answer(code: &mut Vec<Inst>, place: u64, t: u32) -> Result<(), AllocError>
 }
 
 /// The low byte of x10 is written, and comes into x5.
-fn write(code: &mut Vec<Inst>) -> Result<(), AllocError>
+fn write(code: &mut Vec<Inst>) -> Result<(), NoMemory>
     ensures { OnOk result (code.new.items ≡ code.old.items ++ write_code) }
 {
-    code.extend_from_slice(&[
-        Inst::Lui {
-            rd: 11,
-            imm: 0x8000,
-        },
-        Inst::Sb {
-            rs1: 11,
-            rs2: 10,
-            imm: 64,
-        },
-        Inst::Addi {
-            rd: 11,
-            rs1: 11,
-            imm: 64,
-        },
-        Inst::Addi {
-            rd: 10,
-            rs1: 0,
-            imm: 1,
-        },
-        Inst::Addi {
-            rd: 12,
-            rs1: 0,
-            imm: 1,
-        },
-        Inst::Addi {
-            rd: 17,
-            rs1: 0,
-            imm: 64,
-        },
-        Inst::Ecall,
-        Inst::Lbu {
-            rd: 5,
-            rs1: 11,
-            imm: 0,
-        },
-    ])
+    append(
+        code,
+        &[
+            Inst::Lui {
+                rd: 11,
+                imm: 0x8000,
+            },
+            Inst::Sb {
+                rs1: 11,
+                rs2: 10,
+                imm: 64,
+            },
+            Inst::Addi {
+                rd: 11,
+                rs1: 11,
+                imm: 64,
+            },
+            Inst::Addi {
+                rd: 10,
+                rs1: 0,
+                imm: 1,
+            },
+            Inst::Addi {
+                rd: 12,
+                rs1: 0,
+                imm: 1,
+            },
+            Inst::Addi {
+                rd: 17,
+                rs1: 0,
+                imm: 64,
+            },
+            Inst::Ecall,
+            Inst::Lbu {
+                rd: 5,
+                rs1: 11,
+                imm: 0,
+            },
+        ],
+    )
 }
 
 /// The next byte of the input comes into x5, or -1.
-fn read(code: &mut Vec<Inst>) -> Result<(), AllocError>
+fn read(code: &mut Vec<Inst>) -> Result<(), NoMemory>
     ensures { OnOk result (code.new.items ≡ code.old.items ++ read_code) }
 {
-    code.extend_from_slice(&[
-        Inst::Addi {
-            rd: 10,
-            rs1: 0,
-            imm: 0,
-        },
-        Inst::Lui {
-            rd: 11,
-            imm: 0x8000,
-        },
-        Inst::Addi {
-            rd: 11,
-            rs1: 11,
-            imm: 64,
-        },
-        Inst::Addi {
-            rd: 12,
-            rs1: 0,
-            imm: 1,
-        },
-        Inst::Addi {
-            rd: 17,
-            rs1: 0,
-            imm: 63,
-        },
-        Inst::Ecall,
-        Inst::Beq {
-            rs1: 10,
-            rs2: 0,
-            imm: 12,
-        },
-        Inst::Lbu {
-            rd: 5,
-            rs1: 11,
-            imm: 0,
-        },
-        Inst::Jal { rd: 0, imm: 8 },
-        Inst::Addi {
-            rd: 5,
-            rs1: 0,
-            imm: -1,
-        },
-    ])
+    append(
+        code,
+        &[
+            Inst::Addi {
+                rd: 10,
+                rs1: 0,
+                imm: 0,
+            },
+            Inst::Lui {
+                rd: 11,
+                imm: 0x8000,
+            },
+            Inst::Addi {
+                rd: 11,
+                rs1: 11,
+                imm: 64,
+            },
+            Inst::Addi {
+                rd: 12,
+                rs1: 0,
+                imm: 1,
+            },
+            Inst::Addi {
+                rd: 17,
+                rs1: 0,
+                imm: 63,
+            },
+            Inst::Ecall,
+            Inst::Beq {
+                rs1: 10,
+                rs2: 0,
+                imm: 12,
+            },
+            Inst::Lbu {
+                rd: 5,
+                rs1: 11,
+                imm: 0,
+            },
+            Inst::Jal { rd: 0, imm: 8 },
+            Inst::Addi {
+                rd: 5,
+                rs1: 0,
+                imm: -1,
+            },
+        ],
+    )
 }
 
 /// What the library does with the temporaries from the first on.
-fn library(
-    code: &mut Vec<Inst>,
-    which: LibraryFunction,
-    first: u32,
-    t: u32,
-) -> Result<(), AllocError>
+fn library(code: &mut Vec<Inst>, which: LibraryFunction, first: u32, t: u32) -> Result<(), NoMemory>
     ensures { OnOk result (code.new.items ≡ code.old.items ++ library_code which first t) }
 {
     let first = u64::from(first);
@@ -330,18 +325,21 @@ fn library(
 }
 
 /// So many records as x10 says.
-fn allocate(code: &mut Vec<Inst>, size: u32, zeroed: bool) -> Result<(), AllocError>
+fn allocate(code: &mut Vec<Inst>, size: u32, zeroed: bool) -> Result<(), NoMemory>
     ensures { OnOk result (code.new.items ≡ code.old.items ++ allocate_code size zeroed) }
 {
     number(code, 11, u64::from(size))?;
     if zeroed {
         return call(code, CALLOC);
     }
-    code.extend_from_slice(&[Inst::Mul {
-        rd: 10,
-        rs1: 10,
-        rs2: 11,
-    }])?;
+    append(
+        code,
+        &[Inst::Mul {
+            rd: 10,
+            rs1: 10,
+            rs2: 11,
+        }],
+    )?;
     call(code, MALLOC)
 }
 
@@ -363,14 +361,14 @@ fn update(
     size: u32,
     sort: Sort,
     right: IntKind,
-) -> Result<(), AllocError>
+) -> Result<(), NoMemory>
     ensures { OnOk result (code.new.items ≡ code.old.items ++ update_code op size sort right) }
 {
     match sort {
         Sort::Number(kind) => {
             let common = common_kind(op, kind, right);
             convert(code, common)?;
-            code.extend_from_slice(&[binary(op, common)])?;
+            append(code, &[binary(op, common)])?;
             convert(code, kind)
         }
         Sort::Pointer => move_by(code, pointer_op(op), size),
@@ -387,7 +385,7 @@ fn pointer_op(op: BinaryOp) -> PointerOp
 }
 
 /// The address of a byte of a local's block.
-fn block(code: &mut Vec<Inst>, l: &Layout, rd: u8, x: u32, by: u32) -> Result<(), AllocError>
+fn block(code: &mut Vec<Inst>, l: &Layout, rd: u8, x: u32, by: u32) -> Result<(), NoMemory>
     ensures { OnOk result (code.new.items ≡ code.old.items ++ block_code l.now rd x by) }
 {
     address(
@@ -417,7 +415,7 @@ fn text(
     x: u32,
     by: u32,
     n: u32,
-) -> Result<(), AllocError>
+) -> Result<(), NoMemory>
     ensures { OnOk result (code.new.items ≡ code.old.items ++ text_code (data_of g.now) l.now x by n) }
 {
     block(code, l, 10, x, by)?;
@@ -427,23 +425,26 @@ fn text(
 }
 
 /// The end of a function.
-fn leave(code: &mut Vec<Inst>, l: &Layout) -> Result<(), AllocError>
+fn leave(code: &mut Vec<Inst>, l: &Layout) -> Result<(), NoMemory>
     ensures { OnOk result (code.new.items ≡ code.old.items ++ return_code l.now) }
 {
     fetch(code, 1, 2, 0)?;
     number(code, 5, u64::from(l.size))?;
-    code.extend_from_slice(&[
-        Inst::Add {
-            rd: 2,
-            rs1: 2,
-            rs2: 5,
-        },
-        Inst::Jalr {
-            rd: 0,
-            rs1: 1,
-            imm: 0,
-        },
-    ])
+    append(
+        code,
+        &[
+            Inst::Add {
+                rd: 2,
+                rs1: 2,
+                rs2: 5,
+            },
+            Inst::Jalr {
+                rd: 0,
+                rs1: 1,
+                imm: 0,
+            },
+        ],
+    )
 }
 
 /// The operand of `return`, where it has one.
@@ -453,7 +454,7 @@ fn get_if_any(
     g: &Routine,
     l: &Layout,
     a: Option<Operand>,
-) -> Result<(), AllocError>
+) -> Result<(), NoMemory>
     ensures { OnOk result (code.new.items ≡ code.old.items ++ get_if_any p.now (data_of g.now) l.now a) }
 {
     match a {
@@ -469,7 +470,7 @@ pub(crate) fn step(
     g: &Routine,
     l: &Layout,
     s: Step,
-) -> Result<(), AllocError>
+) -> Result<(), NoMemory>
     ensures { OnOk result (code.new.items ≡ code.old.items ++ step_code p.now (data_of g.now) l.now s) }
 {
     match s {
@@ -499,7 +500,7 @@ pub(crate) fn step(
         }
         Step::Binary(t, _, op, kind, _, a, b) => {
             both(code, p, g, l, a, b)?;
-            code.extend_from_slice(&[binary(op, kind)])?;
+            append(code, &[binary(op, kind)])?;
             give(code, t, 5)
         }
         Step::Compare(t, _, op, kind, a, b) => {
@@ -534,22 +535,28 @@ pub(crate) fn step(
         Step::ElementField(t, _, size, _, by, a, b) => {
             both(code, p, g, l, a, b)?;
             scale(code, size)?;
-            code.extend_from_slice(&[Inst::Add {
-                rd: 5,
-                rs1: 5,
-                rs2: 6,
-            }])?;
+            append(
+                code,
+                &[Inst::Add {
+                    rd: 5,
+                    rs1: 5,
+                    rs2: 6,
+                }],
+            )?;
             offset(code, by)?;
             give(code, t, 5)
         }
         Step::Element(t, _, _, size, _, _, a, b) => {
             both(code, p, g, l, a, b)?;
             scale(code, size)?;
-            code.extend_from_slice(&[Inst::Add {
-                rd: 5,
-                rs1: 5,
-                rs2: 6,
-            }])?;
+            append(
+                code,
+                &[Inst::Add {
+                    rd: 5,
+                    rs1: 5,
+                    rs2: 6,
+                }],
+            )?;
             give(code, t, 5)
         }
         Step::Inside(t, _, x, by) => {
@@ -558,12 +565,12 @@ pub(crate) fn step(
         }
         Step::Load(t, _, access, a) => {
             get(code, p, g, l, 5, a)?;
-            code.extend_from_slice(&[load_by(access, 5, 5, 0)])?;
+            append(code, &[load_by(access, 5, 5, 0)])?;
             give(code, t, 5)
         }
         Step::Store(_, access, a, b) => {
             both(code, p, g, l, a, b)?;
-            code.extend_from_slice(&[store_by(access, 5, 6, 0)])
+            append(code, &[store_by(access, 5, 6, 0)])
         }
         Step::CopyRecord(_, size, a, b) => {
             get(code, p, g, l, 10, a)?;
@@ -574,22 +581,25 @@ pub(crate) fn step(
         Step::Jump(to) => jump(code, place_led(g, l, to)),
         Step::Branch(when, a, to) => {
             get(code, p, g, l, 5, a)?;
-            code.extend_from_slice(&[skip_unless_true(when)])?;
+            append(code, &[skip_unless_true(when)])?;
             jump(code, place_led(g, l, to))
         }
         Step::Test(_, op, kind, when, a, b, to) => {
             both(code, p, g, l, a, b)?;
-            code.extend_from_slice(&[skip_unless(when, op, kind)])?;
+            append(code, &[skip_unless(when, op, kind)])?;
             jump(code, place_led(g, l, to))
         }
         Step::Case(n, a, to) => {
             get(code, p, g, l, 5, a)?;
             number(code, 6, u64::from(n))?;
-            code.extend_from_slice(&[Inst::Bne {
-                rs1: 5,
-                rs2: 6,
-                imm: 12,
-            }])?;
+            append(
+                code,
+                &[Inst::Bne {
+                    rs1: 5,
+                    rs2: 6,
+                    imm: 12,
+                }],
+            )?;
             jump(code, place_led(g, l, to))
         }
         Step::Call(t, _, f, all) => {
@@ -600,11 +610,14 @@ pub(crate) fn step(
         Step::CallThrough(t, _, _, a, all) => {
             get(code, p, g, l, 5, a)?;
             row(code, all)?;
-            code.extend_from_slice(&[Inst::Jalr {
-                rd: 1,
-                rs1: 5,
-                imm: 0,
-            }])?;
+            append(
+                code,
+                &[Inst::Jalr {
+                    rd: 1,
+                    rs1: 5,
+                    imm: 0,
+                }],
+            )?;
             give(code, t, 10)
         }
         Step::Library(t, _, which, all) => library(code, which, all.first, t),
@@ -616,20 +629,26 @@ pub(crate) fn step(
         Step::Begin(_, _) | Step::End(_) | Step::Forget(_, _) => Ok(()),
         Step::Zeros(x, size) => {
             block(code, l, 10, x, 0)?;
-            code.extend_from_slice(&[Inst::Addi {
-                rd: 11,
-                rs1: 0,
-                imm: 0,
-            }])?;
+            append(
+                code,
+                &[Inst::Addi {
+                    rd: 11,
+                    rs1: 0,
+                    imm: 0,
+                }],
+            )?;
             number(code, 12, u64::from(size))?;
             call(code, FILL)
         }
         Step::Text(x, by, n) => text(code, g, l, x, by, n),
-        Step::Began(_, _) => code.extend_from_slice(&[Inst::Addi {
-            rd: 0,
-            rs1: 0,
-            imm: 0,
-        }]),
+        Step::Began(_, _) => append(
+            code,
+            &[Inst::Addi {
+                rd: 0,
+                rs1: 0,
+                imm: 0,
+            }],
+        ),
         Step::Return(a) => {
             get_if_any(code, p, g, l, a)?;
             leave(code, l)
@@ -638,6 +657,6 @@ pub(crate) fn step(
             temporary(code, g, l, 10, t)?;
             leave(code, l)
         }
-        Step::Fail(_, _) => code.extend_from_slice(&[Inst::Ebreak]),
+        Step::Fail(_, _) => append(code, &[Inst::Ebreak]),
     }
 }

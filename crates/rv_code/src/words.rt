@@ -5,8 +5,8 @@ ghost use Rattle.rv_code.specs.Words.{address_code, call_code, fetch_code, jump_
 
 use block_memory::Access;
 use c_types::IntKind;
+use lay_base::{NoMemory, append};
 use rv_isa::Inst;
-use std::alloc::AllocError;
 
 /// The low 12 bits of a number as a signed one.
 fn lower(n: u64) -> i32
@@ -24,41 +24,50 @@ fn upper(n: u64) -> u32
 }
 
 /// A number comes into a register.
-pub(crate) fn number(code: &mut Vec<Inst>, rd: u8, n: u64) -> Result<(), AllocError>
+pub(crate) fn number(code: &mut Vec<Inst>, rd: u8, n: u64) -> Result<(), NoMemory>
     ensures { OnOk result (code.new.items ≡ code.old.items ++ number_code rd n) }
 {
     let low = lower(n);
     let high = upper(n);
     if high == 0 {
-        code.extend_from_slice(&[Inst::Addi {
-            rd,
-            rs1: 0,
-            imm: low,
-        }])
-    } else {
-        code.extend_from_slice(&[
-            Inst::Lui { rd, imm: high },
-            Inst::Addi {
+        append(
+            code,
+            &[Inst::Addi {
                 rd,
-                rs1: rd,
+                rs1: 0,
                 imm: low,
-            },
-        ])
+            }],
+        )
+    } else {
+        append(
+            code,
+            &[
+                Inst::Lui { rd, imm: high },
+                Inst::Addi {
+                    rd,
+                    rs1: rd,
+                    imm: low,
+                },
+            ],
+        )
     }
 }
 
 /// A place comes into a register.
-pub(crate) fn place(code: &mut Vec<Inst>, rd: u8, n: u64) -> Result<(), AllocError>
+pub(crate) fn place(code: &mut Vec<Inst>, rd: u8, n: u64) -> Result<(), NoMemory>
     ensures { OnOk result (code.new.items ≡ code.old.items ++ place_code rd n) }
 {
-    code.extend_from_slice(&[
-        Inst::Lui { rd, imm: upper(n) },
-        Inst::Addi {
-            rd,
-            rs1: rd,
-            imm: lower(n),
-        },
-    ])
+    append(
+        code,
+        &[
+            Inst::Lui { rd, imm: upper(n) },
+            Inst::Addi {
+                rd,
+                rs1: rd,
+                imm: lower(n),
+            },
+        ],
+    )
 }
 
 fn load_number(kind: IntKind, rd: u8, base: u8, by: i32) -> Inst
@@ -164,32 +173,38 @@ pub(crate) fn store_by(access: Access, base: u8, rs: u8, by: i32) -> Inst
 }
 
 /// A word behind an address comes into a register, which is not the one of the address.
-pub(crate) fn fetch(code: &mut Vec<Inst>, rd: u8, base: u8, offset: u64) -> Result<(), AllocError>
+pub(crate) fn fetch(code: &mut Vec<Inst>, rd: u8, base: u8, offset: u64) -> Result<(), NoMemory>
     ensures { OnOk result (code.new.items ≡ code.old.items ++ fetch_code rd base offset) }
 {
     if offset < 2048 {
-        code.extend_from_slice(&[Inst::Lw {
-            rd,
-            rs1: base,
-            imm: offset as i32,
-        }])
+        append(
+            code,
+            &[Inst::Lw {
+                rd,
+                rs1: base,
+                imm: offset as i32,
+            }],
+        )
     } else {
-        code.extend_from_slice(&[
-            Inst::Lui {
-                rd,
-                imm: upper(offset),
-            },
-            Inst::Add {
-                rd,
-                rs1: rd,
-                rs2: base,
-            },
-            Inst::Lw {
-                rd,
-                rs1: rd,
-                imm: lower(offset),
-            },
-        ])
+        append(
+            code,
+            &[
+                Inst::Lui {
+                    rd,
+                    imm: upper(offset),
+                },
+                Inst::Add {
+                    rd,
+                    rs1: rd,
+                    rs2: base,
+                },
+                Inst::Lw {
+                    rd,
+                    rs1: rd,
+                    imm: lower(offset),
+                },
+            ],
+        )
     }
 }
 
@@ -200,87 +215,102 @@ pub(crate) fn keep(
     rs: u8,
     base: u8,
     offset: u64,
-) -> Result<(), AllocError>
+) -> Result<(), NoMemory>
     ensures { OnOk result (code.new.items ≡ code.old.items ++ keep_code access rs base offset) }
 {
     if offset < 2048 {
-        code.extend_from_slice(&[store_by(access, base, rs, offset as i32)])
+        append(code, &[store_by(access, base, rs, offset as i32)])
     } else {
-        code.extend_from_slice(&[
-            Inst::Lui {
-                rd: 7,
-                imm: upper(offset),
-            },
-            Inst::Add {
-                rd: 7,
-                rs1: 7,
-                rs2: base,
-            },
-            store_by(access, 7, rs, lower(offset)),
-        ])
+        append(
+            code,
+            &[
+                Inst::Lui {
+                    rd: 7,
+                    imm: upper(offset),
+                },
+                Inst::Add {
+                    rd: 7,
+                    rs1: 7,
+                    rs2: base,
+                },
+                store_by(access, 7, rs, lower(offset)),
+            ],
+        )
     }
 }
 
 /// An address so many bytes behind another one comes into a register, which is not the one of the other.
-pub(crate) fn address(code: &mut Vec<Inst>, rd: u8, base: u8, offset: u64) -> Result<(), AllocError>
+pub(crate) fn address(code: &mut Vec<Inst>, rd: u8, base: u8, offset: u64) -> Result<(), NoMemory>
     ensures { OnOk result (code.new.items ≡ code.old.items ++ address_code rd base offset) }
 {
     if offset < 2048 {
-        code.extend_from_slice(&[Inst::Addi {
-            rd,
-            rs1: base,
-            imm: offset as i32,
-        }])
+        append(
+            code,
+            &[Inst::Addi {
+                rd,
+                rs1: base,
+                imm: offset as i32,
+            }],
+        )
     } else {
-        code.extend_from_slice(&[
-            Inst::Lui {
-                rd,
-                imm: upper(offset),
-            },
-            Inst::Addi {
-                rd,
-                rs1: rd,
-                imm: lower(offset),
-            },
-            Inst::Add {
-                rd,
-                rs1: rd,
-                rs2: base,
-            },
-        ])
+        append(
+            code,
+            &[
+                Inst::Lui {
+                    rd,
+                    imm: upper(offset),
+                },
+                Inst::Addi {
+                    rd,
+                    rs1: rd,
+                    imm: lower(offset),
+                },
+                Inst::Add {
+                    rd,
+                    rs1: rd,
+                    rs2: base,
+                },
+            ],
+        )
     }
 }
 
 /// A jump to a place.
-pub(crate) fn jump(code: &mut Vec<Inst>, place: u64) -> Result<(), AllocError>
+pub(crate) fn jump(code: &mut Vec<Inst>, place: u64) -> Result<(), NoMemory>
     ensures { OnOk result (code.new.items ≡ code.old.items ++ jump_code place) }
 {
-    code.extend_from_slice(&[
-        Inst::Lui {
-            rd: 5,
-            imm: upper(place),
-        },
-        Inst::Jalr {
-            rd: 0,
-            rs1: 5,
-            imm: lower(place),
-        },
-    ])
+    append(
+        code,
+        &[
+            Inst::Lui {
+                rd: 5,
+                imm: upper(place),
+            },
+            Inst::Jalr {
+                rd: 0,
+                rs1: 5,
+                imm: lower(place),
+            },
+        ],
+    )
 }
 
 /// A call of a place.
-pub(crate) fn call(code: &mut Vec<Inst>, place: u64) -> Result<(), AllocError>
+pub(crate) fn call(code: &mut Vec<Inst>, place: u64) -> Result<(), NoMemory>
     ensures { OnOk result (code.new.items ≡ code.old.items ++ call_code place) }
 {
-    code.extend_from_slice(&[
-        Inst::Lui {
-            rd: 1,
-            imm: upper(place),
-        },
-        Inst::Jalr {
-            rd: 1,
-            rs1: 1,
-            imm: lower(place),
-        },
-    ])
+    append(
+        code,
+        &[
+            Inst::Lui {
+                rd: 1,
+                imm: upper(place),
+            },
+            Inst::Jalr {
+                rd: 1,
+                rs1: 1,
+                imm: lower(place),
+            },
+        ],
+    )
 }

@@ -11,7 +11,7 @@ ghost use Rattle.tac_ir.specs.Code.{code_of, data_of};
 
 use c_typed::{Initial, InitialValue, Object, Typed};
 use c_types::width;
-use lay_base::{Bytes, NoMemory};
+use lay_base::{Bytes, NoMemory, append, filled, push};
 use rv_code::Places;
 use rv_runtime::runtime_data;
 use source_values::Types;
@@ -34,9 +34,7 @@ pub(crate) fn object_sizes(
             None => 0,
             Some(_) => types.row(o.ty).size,
         };
-        if sizes.push(size).is_err() {
-            return Err(NoMemory);
-        }
+        push(&mut sizes, size)?;
     }
     Ok(sizes)
 }
@@ -189,16 +187,10 @@ fn all_texts_end(at: u64, routines: &[Routine]) -> u64
 fn empty_data(alloc: Global, size: u64, heap_end: u32) -> Result<Vec<u8>, NoMemory>
     ensures { IfOk result (λ bytes. bytes.items ≡ data_bytes heap_end ++ replicate (size - 256) 0) }
 {
-    let Ok(zeros) = vec![in alloc; 0; size.saturating_sub(256) as usize] else {
-        return Err(NoMemory);
-    };
-    let Ok(mut bytes) = runtime_data(alloc, heap_end) else {
-        return Err(NoMemory);
-    };
-    match bytes.extend_from_slice(zeros.as_slice()) {
-        Ok(()) => Ok(bytes),
-        Err(_) => Err(NoMemory),
-    }
+    let zeros = filled(alloc, 0, size.saturating_sub(256) as usize)?;
+    let mut bytes = runtime_data(alloc, heap_end)?;
+    append(&mut bytes, zeros.as_slice())?;
+    Ok(bytes)
 }
 
 /// The data of a program whose texts lie from a place on.

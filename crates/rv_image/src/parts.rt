@@ -11,12 +11,12 @@ ghost use Rattle.tac_ir.specs.Code.{code_of};
 
 use crate::data::{data, object_sizes};
 use c_typed::Typed;
-use lay_base::{Bytes, List, NoMemory};
+use lay_base::{Bytes, List, NoMemory, add, append, with_room};
 use rv_code::{places, program};
 use rv_isa::{Image, Inst, Segment, encode};
 use rv_runtime::{runtime, runtime_data};
 use source_values::Types;
-use std::alloc::{AllocError, Global};
+use std::alloc::Global;
 use tac_ir::Tac;
 
 const TEXT: u32 = 0x0001_0000;
@@ -37,12 +37,12 @@ const READ_WRITE: u8 = 6;
 
 /// The words of instructions, the lowest byte of each first, after what is there.
 #[tactic(auto, using(crate::proofs::Walks::words_next, std::proofs::lemmas::Grind::common_steps))]
-fn put_code(bytes: &mut Vec<u8>, code: &[Inst]) -> Result<(), AllocError>
+fn put_code(bytes: &mut Vec<u8>, code: &[Inst]) -> Result<(), NoMemory>
     requires { All IsInRange code.now }
     ensures { OnOk result (bytes.new.items ≡ bytes.old.items ++ bytes_of (words_of code.now)) }
 {
     for i in code {
-        bytes.extend_from_slice(&encode(*i).to_le_bytes())?;
+        append(bytes, &encode(*i).to_le_bytes())?;
     }
     Ok(())
 }
@@ -78,13 +78,9 @@ fn text(alloc: Global, code: &[Inst]) -> Result<Vec<u8>, NoMemory>
     requires { All IsInRange code.now }
     ensures { IfOk result (λ bytes. bytes.items ≡ runtime_bytes ++ bytes_of (words_of code.now)) }
 {
-    let Ok(mut bytes) = runtime(alloc) else {
-        return Err(NoMemory);
-    };
-    match put_code(&mut bytes, code) {
-        Ok(()) => Ok(bytes),
-        Err(_) => Err(NoMemory),
-    }
+    let mut bytes = runtime(alloc)?;
+    put_code(&mut bytes, code)?;
+    Ok(bytes)
 }
 
 /// An image of text and data, and so many MiB of heap and of stack.
@@ -101,19 +97,15 @@ fn segments(
     requires stack { stack ≤ 128 }
     ensures { IfOk result (λ image. image ≡ image_with text.items globals.items heap stack) }
 {
-    let segments = vec![in alloc;
-        full(TEXT, READ_EXECUTE, text),
-        full(DATA, READ_WRITE, globals),
-        room(alloc, STACK, stack),
-        room(alloc, HEAP, heap),
-    ];
-    match segments {
-        Ok(segments) => Ok(Image {
-            entry: TEXT,
-            segments: List::of(segments),
-        }),
-        Err(_) => Err(NoMemory),
-    }
+    let mut segments = with_room(alloc, 4)?;
+    add(&mut segments, full(TEXT, READ_EXECUTE, text))?;
+    add(&mut segments, full(DATA, READ_WRITE, globals))?;
+    add(&mut segments, room(alloc, STACK, stack))?;
+    add(&mut segments, room(alloc, HEAP, heap))?;
+    Ok(Image {
+        entry: TEXT,
+        segments,
+    })
 }
 
 /// Where the objects of a program lie, and where its texts begin.

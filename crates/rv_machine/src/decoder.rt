@@ -3,7 +3,7 @@
 ghost use Rattle.std.specs.Prelude.{◌≡◌, ◌/◌, ◌%◌, ◌^◌, ◌<◌, Some, length};
 ghost use Rattle.rv_isa.specs.Decoding.{decoded};
 
-use lay_base::NoMemory;
+use lay_base::{NoMemory, filled};
 use rv_isa::{Inst, decode};
 use std::alloc::Global;
 
@@ -63,9 +63,7 @@ impl Decoder {
     pub(crate) fn new(alloc: Global) -> Result<Decoder, NoMemory>
         ensures { IfOk result (λ decoder. (hart : Hart) → AllStay hart decoder) }
     {
-        let Ok(mut entries) = vec![in alloc; nothing_at(4); ENTRIES] else {
-            return Err(NoMemory);
-        };
+        let mut entries = filled(alloc, nothing_at(4), ENTRIES)?;
         entries[1] = nothing_at(0);
         Ok(Decoder { entries })
     }

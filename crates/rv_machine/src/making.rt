@@ -8,19 +8,17 @@ ghost use Rattle.rv_machine.specs.View.{bare, content_of, segments_in};
 
 use crate::memory::Memory;
 use crate::rows::Row;
-use lay_base::NoMemory;
+use lay_base::{NoMemory, append, push, resize, with_capacity};
 use rv_isa::Segment;
 use std::alloc::Global;
 
-/// How many addresses the segments have together. Its one refusal is a number past `usize`.
-fn total_size(segments: &[Segment]) -> Result<usize, NoMemory>
-    ensures { IfOk result (λ total. total ≡ size_of segments.now) }
-{
+/// How many addresses the segments have together, for which room is asked.
+fn total_size(segments: &[Segment]) -> usize {
     let mut total: usize = 0;
     for segment in segments {
-        total = total.checked_add(segment.size as usize).ok_or(NoMemory)?;
+        total = total.saturating_add(segment.size as usize);
     }
-    Ok(total)
+    total
 }
 
 /// A row for each segment, in their order.
@@ -28,7 +26,7 @@ fn rows_for(alloc: Global, segments: &[Segment]) -> Result<Vec<Row>, NoMemory>
     requires { size_of segments.now < 2 ^ 64 }
     ensures { IfOk result (λ rows. rows.items ≡ rows_from 0 segments.now) }
 {
-    let mut rows = Vec::with_capacity(alloc, segments.len()).map_err(|_| NoMemory)?;
+    let mut rows = with_capacity(alloc, segments.len())?;
     let mut start = 0;
     for segment in segments {
         let row = Row {
@@ -37,7 +35,7 @@ fn rows_for(alloc: Global, segments: &[Segment]) -> Result<Vec<Row>, NoMemory>
             start,
             flags: segment.flags,
         };
-        rows.push(row).map_err(|_| NoMemory)?;
+        push(&mut rows, row)?;
         start += segment.size as usize;
     }
     Ok(rows)
@@ -49,18 +47,16 @@ fn put_segment(bytes: &mut Vec<u8>, segment: &Segment) -> Result<(), NoMemory>
     ensures { OnOk result (bytes.new.items ≡ bytes.old.items ++ whole segment.now) }
 {
     let end = bytes.len() + segment.size as usize;
-    bytes
-        .extend_from_slice(segment.bytes.as_slice())
-        .map_err(|_| NoMemory)?;
-    bytes.resize(end, 0).map_err(|_| NoMemory)
+    append(bytes, segment.bytes.as_slice())?;
+    resize(bytes, end, 0)
 }
 
-/// The bytes of all segments, `total` in number.
-fn bytes_for(alloc: Global, segments: &[Segment], total: usize) -> Result<Vec<u8>, NoMemory>
+/// The bytes of all segments.
+fn bytes_for(alloc: Global, segments: &[Segment]) -> Result<Vec<u8>, NoMemory>
     requires { All Fits segments.now }
     ensures { IfOk result (λ bytes. bytes.items ≡ bytes_of segments.now) }
 {
-    let mut bytes = Vec::with_capacity(alloc, total).map_err(|_| NoMemory)?;
+    let mut bytes = with_capacity(alloc, total_size(segments))?;
     for segment in segments {
         put_segment(&mut bytes, segment)?;
     }
@@ -75,9 +71,8 @@ impl Memory {
         ensures segments { IfOk result (λ m. segments_in m ≡ map bare segments.now) }
         ensures content { IfOk result (λ m. content_of m ≡ initial_memory segments.now) }
     {
-        let total = total_size(segments)?;
+        let bytes = bytes_for(alloc, segments)?;
         let rows = rows_for(alloc, segments)?;
-        let bytes = bytes_for(alloc, segments, total)?;
         Ok(Memory {
             rows,
             bytes,

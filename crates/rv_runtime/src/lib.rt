@@ -1,6 +1,6 @@
 //! The runtime of compiled programs: the routines that they call, as words at fixed addresses.
 //!
-//! It stands on `rv_isa`, whose instructions the routines are. It promises that `runtime` answers the bytes of the routines, each at its
+//! It stands on `rv_isa`, whose instructions the routines are, and on `lay_base`. It promises that `runtime` answers the bytes of the routines, each at its
 //! place, which stand at the front of a program's text, and `runtime_data` those at the front of its data; that the routines stand where these bytes do; and
 //! what each of them leaves (`specs/Laws.antt`). For proofs about code that calls them, `proofs/` says the same backwards, for any claim: `malloc_works`,
 //! `calloc_works`, `malloc_stops`, `calloc_stops`, `free_works`, `copy_works`, `fill_works`, `compare_works`, `start_works`, `exit_works`.

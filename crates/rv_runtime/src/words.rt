@@ -3,7 +3,8 @@
 ghost use Rattle.std.specs.Prelude.{◌≡◌, ◌++◌, ◌≤◌, length, OnOk, IfOk};
 ghost use Rattle.rv_runtime.specs.Bytes.{zeros, bytes_of, open_page, page, runtime_bytes, data_bytes};
 
-use std::alloc::{AllocError, Global};
+use lay_base::{NoMemory, append, filled};
+use std::alloc::Global;
 
 /// The bytes of a routine.
 const ROUTINE: usize = 512;
@@ -47,46 +48,46 @@ static COMPARE: [u32; 13] = [
 ];
 
 #[tactic(auto, unfolding(crate::specs::Bytes::zeros))]
-fn zero_bytes(alloc: Global, n: usize) -> Result<Vec<u8>, AllocError>
+fn zero_bytes(alloc: Global, n: usize) -> Result<Vec<u8>, NoMemory>
     ensures { IfOk result (λ bytes. bytes.items ≡ zeros n) }
 {
-    Ok(vec![in alloc; 0; n]?)
+    filled(alloc, 0, n)
 }
 
 /// Words, the lowest byte of each first, after what is there.
 #[tactic(auto, using(crate::proofs::Lists::bytes_append, std::proofs::lemmas::Grind::common_steps))]
-fn put_words(bytes: &mut Vec<u8>, words: &[u32]) -> Result<(), AllocError>
+fn put_words(bytes: &mut Vec<u8>, words: &[u32]) -> Result<(), NoMemory>
     ensures { OnOk result (bytes.new.items ≡ bytes.old.items ++ bytes_of words.now) }
 {
     for word in words {
-        bytes.extend_from_slice(&word.to_le_bytes())?;
+        append(bytes, &word.to_le_bytes())?;
     }
     Ok(())
 }
 
 /// A routine that does not return, and zeros after it.
 #[tactic(auto, unfolding(crate::specs::Bytes::open_page))]
-fn put_open(alloc: Global, bytes: &mut Vec<u8>, words: &[u32]) -> Result<(), AllocError>
+fn put_open(alloc: Global, bytes: &mut Vec<u8>, words: &[u32]) -> Result<(), NoMemory>
     requires { length words.now ≤ 128 }
     ensures { OnOk result (bytes.new.items ≡ bytes.old.items ++ open_page words.now) }
 {
     put_words(bytes, words)?;
-    bytes.extend_from_slice(&zero_bytes(alloc, ROUTINE - 4 * words.len())?)
+    append(bytes, &zero_bytes(alloc, ROUTINE - 4 * words.len())?)
 }
 
 /// A routine, zeros, and the word that returns.
 #[tactic(auto, unfolding(crate::specs::Bytes::page))]
-fn put_page(alloc: Global, bytes: &mut Vec<u8>, words: &[u32]) -> Result<(), AllocError>
+fn put_page(alloc: Global, bytes: &mut Vec<u8>, words: &[u32]) -> Result<(), NoMemory>
     requires { length words.now ≤ 127 }
     ensures { OnOk result (bytes.new.items ≡ bytes.old.items ++ page words.now) }
 {
     put_words(bytes, words)?;
-    bytes.extend_from_slice(&zero_bytes(alloc, ROUTINE - 4 - 4 * words.len())?)?;
+    append(bytes, &zero_bytes(alloc, ROUTINE - 4 - 4 * words.len())?)?;
     put_words(bytes, &[RETURN])
 }
 
 /// The first 4,096 bytes of a program's text.
-pub fn runtime(alloc: Global) -> Result<Vec<u8>, AllocError>
+pub fn runtime(alloc: Global) -> Result<Vec<u8>, NoMemory>
     ensures { IfOk result (λ bytes. bytes.items ≡ runtime_bytes) }
 {
     let mut bytes = Vec::new(alloc);
@@ -103,12 +104,12 @@ pub fn runtime(alloc: Global) -> Result<Vec<u8>, AllocError>
 
 /// The 256 bytes that stand at the front of a program's data, where the heap ends at that address.
 #[tactic(auto, unfolding(crate::specs::Bytes::data_bytes))]
-pub fn runtime_data(alloc: Global, end: u32) -> Result<Vec<u8>, AllocError>
+pub fn runtime_data(alloc: Global, end: u32) -> Result<Vec<u8>, NoMemory>
     ensures { IfOk result (λ bytes. bytes.items ≡ data_bytes end) }
 {
     let mut bytes = Vec::new(alloc);
-    bytes.extend_from_slice(&HEAP.to_le_bytes())?;
-    bytes.extend_from_slice(&end.to_le_bytes())?;
-    bytes.extend_from_slice(&zero_bytes(alloc, 248)?)?;
+    append(&mut bytes, &HEAP.to_le_bytes())?;
+    append(&mut bytes, &end.to_le_bytes())?;
+    append(&mut bytes, &zero_bytes(alloc, 248)?)?;
     Ok(bytes)
 }

@@ -1,10 +1,8 @@
 -- The call of `main` begins the run.
-use Rattle.std.proofs.Common.{◌≡◌, refl, sym, ap, ◌∙◌, subst, ℕ, ◌^◌, ◌<◌, true, List, [], Ok, Err, arith}
-use Rattle.std.specs.Prelude.{IfOk, Result}
+use Rattle.std.proofs.Common.{◌≡◌, refl, sym, ap, ◌∙◌, subst, ℕ, ◌^◌, ◌<◌, true, List, [], arith}
 use Rattle.c_typed.specs.Programs.{ProgramData, program_data}
 use Rattle.c_typed.specs.declared.program.Typed.{Typed}
 use Rattle.c_meaning.specs.Run.{run_of}
-use Rattle.lay_base.specs.declared.no_memory.NoMemory.{NoMemory}
 use Rattle.lower_tac.specs.Same.{RunsAreSame}
 use Rattle.lower_tac.specs.Statements.{lowered}
 use Rattle.source_run.specs.Starting.{IsAtStart, first_core}
@@ -17,11 +15,11 @@ use Rattle.source_state.specs.Steps.Cores.{Core}
 use Rattle.source_state.specs.declared.ends.Moved.{Moved}
 use Rattle.tac_engine.specs.States.{State, Moves}
 use Rattle.tac_engine.specs.Steps.{main_called}
-use Rattle.tac_engine.specs.View.{ready, state_of}
-use Rattle.tac_engine.specs.declared.engine.Engine.{Engine}
+use Rattle.tac_engine.specs.View.{ready}
 use Rattle.tac_engine.proofs.Remains.{Within, start_keeps}
 use Rattle.tac_ir.specs.Code.{Code, code_of}
 use Rattle.tac_ir.specs.Running.{code_run}
+use Rattle.tac_ir.specs.declared.step.Routine.{Routine}
 use Rattle.tac_ir.specs.declared.step.Tac.{Tac}
 
 agrees_at_start : (p : ProgramData) (turns : ℕ) → turns < 2 ^ 64 → Agrees (first_core p turns) (first_core p turns) []
@@ -58,9 +56,7 @@ module _ (typed : Typed) (turns : ℕ) (few : turns < 2 ^ 64) (same : RunsAreSam
   })
 
 -- an engine in the room of the start
-pub at_start : (typed : Typed) (code : Tac) (turns : ℕ) (core : Core) (r : Result Engine NoMemory) → core ≡ first_core (program_data typed) turns
-    → code_of code ≡ lowered (program_data typed) → IfOk r (λ engine. state_of engine ≡ ready typed code core engine.routine.now)
-    → IfOk r (λ engine. IsAtStart typed turns (state_of engine))
-at_start typed code turns core (Ok engine) first lowers is =
-    record { code = code; routine = engine.routine.now; lowers = lowers; state = is ∙ ap (λ (c : Core). ready typed code c engine.routine.now) first }
-at_start typed code turns core (Err fault) first lowers is = tt
+pub at_start : (typed : Typed) (code : Tac) (turns : ℕ) (core : Core) (g : Routine) (s : State) → core ≡ first_core (program_data typed) turns
+    → code_of code ≡ lowered (program_data typed) → s ≡ ready typed code core g → IsAtStart typed turns s
+at_start typed code turns core g s first lowers is =
+    record { code = code; routine = g; lowers = lowers; state = is ∙ ap (λ (c : Core). ready typed code c g) first }

@@ -5,6 +5,7 @@ use Rattle.c_typed.specs.RunCounts.Counting.{counts_by}
 use Rattle.c_typed.specs.declared.run_counts.counts.Counts.{Counts}
 use Rattle.c_typed.specs.Programs.{ProgramData}
 use Rattle.lay_base.specs.Known.{Appends, Rose}
+use Rattle.lay_base.specs.Want.{no_memory}
 use Rattle.block_memory.specs.RunWorlds.Events.{Event, Call, putting, getting, calls_of, output_of, entries_of, begins_of}
 use Rattle.block_memory.specs.RunWorlds.Worlds.{World, End, world_of}
 use Rattle.c_meaning.specs.Run.{RunEnd, ended, kept, no_room, run_of, seen, trace_of, was_undefined, went_on}
@@ -96,8 +97,8 @@ module _ (p : ProgramData) (turns : ℕ) where
     gives_end (Undefined kind at) h = h
     gives_end (Room kind counted) h = h
 
-    no_memory_over : (end : Final) → FarWith p turns before now (Over end) new → here ≡ now → RunGives p turns before here counts E.Memory
-    no_memory_over end far same = subst (λ (u : Streams). RunGives p turns before u counts E.Memory) (sym same) (
+    no_memory_over : (end : Final) → FarWith p turns before now (Over end) new → here ≡ now → RunGives p turns before here counts (E.Memory no_memory)
+    no_memory_over end far same = subst (λ (u : Streams). RunGives p turns before u counts (E.Memory no_memory)) (sym same) (
       far.steady,
       λ input known.
           let r = far.reached input known in
@@ -206,11 +207,11 @@ module _ (p : ProgramData) (turns : ℕ) where
           left = h.1 (rest_behind r.calls input) r.left ∙ ap Some (sym (rest_got r.calls input));
         }
 
-    pub lacks_memory : Lacks s new now here → RunGives p turns before here counts E.Memory
+    pub lacks_memory : Lacks s new now here → RunGives p turns before here counts (E.Memory no_memory)
     lacks_memory w = (steady_then before now here far.steady w.steady, λ input known. lacks_so input known w.written w.left)
 
   -- at the start
-  pub none_at_all : (before : Streams) (counts : Counts) → RunGives p turns before before counts E.Memory
+  pub none_at_all : (before : Streams) (counts : Counts) → RunGives p turns before before counts (E.Memory no_memory)
   none_at_all before counts = (
     record { reads = refl; writes = refl },
     λ input known. record {
@@ -226,5 +227,5 @@ module _ (p : ProgramData) (turns : ℕ) where
   )
 
   -- behind all steps that the code makes
-  pub steps_on : (before now : Streams) (s : State) (counts : Counts) → FarAt p turns before now s → RunGives p turns before now counts E.Memory
+  pub steps_on : (before now : Streams) (s : State) (counts : Counts) → FarAt p turns before now s → RunGives p turns before now counts (E.Memory no_memory)
   steps_on before now s counts far = (far.steady, λ input known. lacks_so before now now s s counts far input known refl (inl refl))

@@ -65,4 +65,4 @@ module _ (old new : State) (before now : Streams) where
   AdvanceGives (A.Over end) = Steps (Over end) × (now ≡ before)
   AdvanceGives A.ReadFails = ReadFails
   AdvanceGives (A.WriteFails byte) = WriteFails byte
-  AdvanceGives A.Memory = Lacks
+  AdvanceGives (A.Memory want) = Lacks

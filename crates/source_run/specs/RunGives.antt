@@ -87,5 +87,5 @@ RunGives p turns before now counts E.ReadFault =
     Rose before.read_faults now.read_faults × WhereKnown before (Stopped p turns before now is_get nothing)
 RunGives p turns before now counts E.WriteFault =
     Rose before.write_faults now.write_faults × WhereKnown before (Stopped p turns before now is_put maybe_that)
-RunGives p turns before now counts E.Memory =
+RunGives p turns before now counts (E.Memory want) =
     AreSteady before now × WhereKnown before (Stopped p turns before now any_calls nothing)

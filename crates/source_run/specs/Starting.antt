@@ -4,6 +4,7 @@ use Rattle.c_typed.specs.RunCounts.Counting.{counts_by}
 use Rattle.c_typed.specs.declared.run_counts.counts.Counts.{Counts}
 use Rattle.c_typed.specs.Programs.{ProgramData, program_data}
 use Rattle.c_typed.specs.declared.program.Typed.{Typed}
+use Rattle.lay_base.specs.Want.{no_memory}
 use Rattle.lower_tac.specs.Statements.{lowered}
 use Rattle.source_run.specs.declared.end.RunEnd.{RunEnd as Answer}
 use Rattle.source_run.specs.declared.end.RunEnd.TheVariants as E
@@ -43,4 +44,4 @@ AreCounts p counting counts = counts ≡ counts_by (entry_in counting) (begin_in
 
 -- the answer is the end, or there was no memory for the counts
 abbrev pub HasFinished : ProgramData → Counting → Counts → Final → (turns : ℕ) → Answer → Type 0
-HasFinished p counting counts end turns answer = ((answer ≡ answer_of end turns) × AreCounts p counting counts) ⊎ (answer ≡ E.Memory)
+HasFinished p counting counts end turns answer = ((answer ≡ answer_of end turns) × AreCounts p counting counts) ⊎ (answer ≡ E.Memory no_memory)

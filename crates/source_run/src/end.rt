@@ -1,6 +1,6 @@
 //! How a run of the interpreter ends.
 
-use lay_base::{Place, RoomKind, UndefinedKind};
+use lay_base::{NoMemory, Place, RoomKind, UndefinedKind};
 
 /// How a run ends.
 #[derive(Clone, Copy)]
@@ -18,5 +18,5 @@ pub enum RunEnd {
     /// The output failed.
     WriteFault,
     /// No memory was left.
-    Memory,
+    Memory(NoMemory),
 }

@@ -13,14 +13,14 @@ ghost use Rattle.tac_ir.specs.Code.{code_of};
 use crate::end::RunEnd;
 use crate::stepping::{Advance, make_step};
 use c_typed::{Counts, Typed};
-use lay_base::{NoMemory, Sink, Source};
+use lay_base::{List, NoMemory, Sink, Source};
 use lower_tac::{lower, runs_are_same};
 use source_start::{counts, no_counts, start};
 use source_state::{Final, Moved, Room};
 use source_values::Types;
 use std::alloc::Global;
 use tac_engine::Engine;
-use tac_ir::Tac;
+use tac_ir::{Routine, Tac};
 
 /// What a run answers that is over so.
 fn answer(end: Final, turns: u64) -> RunEnd
@@ -45,11 +45,24 @@ fn counts_at_start(alloc: Global, p: &Typed) -> Result<Counts, NoMemory>
     }
 }
 
+/// What stands in an engine where no function runs yet.
+fn no_routine(alloc: Global) -> Routine {
+    Routine {
+        ty: 0,
+        locals: List::new(alloc),
+        parameters: List::new(alloc),
+        code: List::new(alloc),
+        labels: List::new(alloc),
+        texts: List::new(alloc),
+    }
+}
+
 /// An engine for the code of a program, in the room with which a run starts.
 fn engine_at_start<'a>(
     alloc: Global,
     types: &'a Types<'a>,
     code: &'a Tac,
+    routine: &'a Routine,
     turns: u64,
 ) -> Result<Engine<'a>, NoMemory>
     requires { code_of code.now ≡ lowered (program_data types.now) }
@@ -58,7 +71,7 @@ fn engine_at_start<'a>(
     let none = no_counts(alloc, types.typed())?;
     let mut room = Room::new(alloc, turns, none);
     start(alloc, types, &mut room)?;
-    Engine::new(alloc, types, code, room)
+    Ok(Engine::new(alloc, types, code, routine, room))
 }
 
 /// The answer of a run that is over, with its counts.
@@ -78,7 +91,7 @@ fn finish(
             *kept = counts;
             answer(end, turns)
         }
-        Err(_) => RunEnd::Memory,
+        Err(want) => RunEnd::Memory(want),
     }
 }
 
@@ -104,7 +117,8 @@ fn run_engine<I: Source, O: Sink>(
         Ok(Moved::Goes) => {}
         Ok(Moved::Over(end)) => return finish(alloc, types, kept, engine, end, turns),
         // A call neither writes nor reads.
-        Ok(Moved::Puts(_)) | Ok(Moved::Gets) | Err(_) => return RunEnd::Memory,
+        Ok(Moved::Puts(_)) | Ok(Moved::Gets) => unreachable!(),
+        Err(want) => return RunEnd::Memory(want),
     }
     for _ in 0..u64::MAX {
         match make_step(alloc, engine, input, out) {
@@ -112,11 +126,11 @@ fn run_engine<I: Source, O: Sink>(
             Advance::Over(end) => return finish(alloc, types, kept, engine, end, turns),
             Advance::ReadFails => return RunEnd::ReadFault,
             Advance::WriteFails(_) => return RunEnd::WriteFault,
-            Advance::Memory => return RunEnd::Memory,
+            Advance::Memory(want) => return RunEnd::Memory(want),
         }
     }
     // No run makes so many steps in practice.
-    RunEnd::Memory
+    RunEnd::Memory(NoMemory::unearned())
 }
 
 /// Runs the code of a program.
@@ -135,9 +149,10 @@ fn run_code<'a, I: Source, O: Sink>(
         (streams (I.left input.old) (I.faults input.old) (O.written out.old) (O.faults out.old))
         (streams (I.left input.new) (I.faults input.new) (O.written out.new) (O.faults out.new)) kept.new result }
 {
-    match engine_at_start(alloc, types, code, turns) {
+    let nothing = no_routine(alloc);
+    match engine_at_start(alloc, types, code, &nothing, turns) {
         Ok(mut engine) => run_engine(alloc, types, kept, &mut engine, input, out, turns),
-        Err(_) => RunEnd::Memory,
+        Err(want) => RunEnd::Memory(want),
     }
 }
 
@@ -197,7 +212,7 @@ impl<'a> Runner<'a> {
                 out,
                 turns,
             ),
-            Err(_) => RunEnd::Memory,
+            Err(want) => RunEnd::Memory(want),
         }
     }
 

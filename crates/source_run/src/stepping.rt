@@ -7,7 +7,7 @@ ghost use Rattle.source_run.specs.Streams.{streams};
 ghost use Rattle.tac_engine.specs.View.{state_of};
 
 use block_memory::Value;
-use lay_base::{Sink, SinkFault, Source, SourceFault};
+use lay_base::{NoMemory, Sink, SinkFault, Source, SourceFault};
 use source_state::{Final, Moved};
 use std::alloc::Global;
 use tac_engine::Engine;
@@ -26,7 +26,7 @@ pub(crate) enum Advance {
     /// The output failed at that byte.
     WriteFails(u8),
     /// No memory was left.
-    Memory,
+    Memory(NoMemory),
 }
 
 /// The next byte of the input as the value of `getchar` (C99 7.19.7.6), which is minus one at its end.
@@ -72,11 +72,11 @@ pub(crate) fn make_step<I: Source, O: Sink>(
         Ok(Moved::Gets) => match next_value(input) {
             Ok(v) => match engine.give(v) {
                 Ok(_) => Advance::Read,
-                Err(_) => Advance::Memory,
+                Err(want) => Advance::Memory(want),
             },
             Err(_) => Advance::ReadFails,
         },
         Ok(Moved::Over(end)) => Advance::Over(end),
-        Err(_) => Advance::Memory,
+        Err(want) => Advance::Memory(want),
     }
 }

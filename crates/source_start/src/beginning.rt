@@ -13,8 +13,8 @@ use source_values::Types;
 use std::alloc::Global;
 
 /// Puts into an empty room what a run of the program starts with. `NoMemory` comes for want of memory, and where a first value does not
-/// fit into its object, a pointer does not stand at a multiple of four or stands in a string literal, or the bytes of all objects have no
-/// number of 64 bits, which is so in no program that was checked. Of what is in the room then nothing is promised.
+/// fit into its object, or a pointer does not stand at a multiple of four or stands in a string literal, which is so in no program that
+/// was checked. Of what is in the room then nothing is promised.
 pub fn start(alloc: Global, types: &Types<'_>, room: &mut Room) -> Result<(), NoMemory>
     ensures { (turns : ℕ) (counts : Counting) → core_of room.old ≡ empty_core turns counts
         → OnOk result (core_of room.new ≡ core_at_start (program_data types.now) turns counts) }

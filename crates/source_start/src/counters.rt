@@ -8,7 +8,7 @@ ghost use Rattle.source_start.specs.Counted.{begin_in, entry_in};
 ghost use Rattle.source_start.specs.Zeros.{no_counts, rows_of};
 
 use c_typed::{Function, Typed, loops_within};
-use lay_base::NoMemory;
+use lay_base::{NoMemory, filled, push};
 use source_state::Counters;
 use std::alloc::Global;
 
@@ -18,7 +18,7 @@ fn loops_of(f: &Function) -> Result<u32, NoMemory>
 {
     let count = loops_within(f);
     if count == u32::MAX {
-        return Err(NoMemory);
+        return Err(NoMemory::unearned());
     }
     Ok(count)
 }
@@ -37,10 +37,7 @@ pub(crate) fn loops_at(p: &Typed, f: u32) -> Result<u32, NoMemory>
 fn zeros(alloc: Global, count: usize) -> Result<Vec<u64>, NoMemory>
     ensures { IfOk result (λ counts. counts.items ≡ replicate count 0) }
 {
-    match vec![in alloc; 0; count] {
-        Ok(counts) => Ok(counts),
-        Err(_) => Err(NoMemory),
-    }
+    filled(alloc, 0, count)
 }
 
 /// The counts of the loops of each function.
@@ -51,9 +48,7 @@ fn rows(alloc: Global, p: &Typed) -> Result<Vec<Vec<u64>>, NoMemory>
     for f in p.functions.as_slice() {
         let count = loops_of(f)?;
         let row = zeros(alloc, count as usize)?;
-        if rows.push(row).is_err() {
-            return Err(NoMemory);
-        }
+        push(&mut rows, row)?;
     }
     Ok(rows)
 }

@@ -1,6 +1,6 @@
 //! The blocks of the objects.
 
-ghost use Rattle.std.specs.Prelude.{◌≡◌, ◌∷◌, [], ◌++◌, IfOk, length, replicate};
+ghost use Rattle.std.specs.Prelude.{◌≡◌, ◌<◌, ◌^◌, ◌∷◌, [], ◌++◌, IfOk, length, replicate};
 ghost use Rattle.memory_words.specs.declared.cell_words.cell.Cell.TheVariants.{Byte};
 ghost use Rattle.block_memory.specs.Blocks.{block, living};
 ghost use Rattle.block_memory.specs.View.{memory_of};
@@ -29,7 +29,8 @@ fn object_kind(text: bool) -> BlockKind
 /// The bytes that live in a block.
 #[tactic(auto, using(crate::proofs::LastBlock::living_bytes, crate::proofs::LastBlock::ended_bytes))]
 fn live_in(store: &Store, number: u64) -> u64
-    ensures { result ≡ live_in (block (memory_of store.now) number).contents }
+    ensures value { result ≡ live_in (block (memory_of store.now) number).contents }
+    ensures small { result < 2 ^ 32 }
 {
     if store.live(number) {
         u64::from(store.size(number))
@@ -41,7 +42,8 @@ fn live_in(store: &Store, number: u64) -> u64
 /// A new block of so many bytes that are 0: its number.
 #[tactic(auto, using(crate::proofs::LastBlock::zeroed_last, crate::proofs::LastBlock::size_of_last))]
 fn add_zeros(alloc: Global, store: &mut Store, size: u32, kind: BlockKind) -> Result<u64, NoMemory>
-    ensures { IfOk result (AddGives (memory_of store.old) (memory_of store.new) (record { kind = kind; contents = living (replicate size (Byte 0)) })) }
+    ensures gives { IfOk result (AddGives (memory_of store.old) (memory_of store.new) (record { kind = kind; contents = living (replicate size (Byte 0)) })) }
+    ensures few { IfOk result (λ b. b < 2 ^ 32) }
 {
     let block = store.alloc(alloc, size, kind)?;
     store.set_zero(block, size);
@@ -58,6 +60,8 @@ fn add_object(
 ) -> Result<u64, NoMemory>
     ensures memory { IfOk result (λ n. memory_of store.new ≡ memory_of store.old ++ object_block (program_data types.now) o.now ∷ []) }
     ensures live { IfOk result (λ n. n ≡ live_in (object_block (program_data types.now) o.now).contents) }
+    ensures small { IfOk result (λ n. n < 2 ^ 32) }
+    ensures few { IfOk result (λ n. length (memory_of store.old) < 2 ^ 32) }
 {
     let Some(all) = &o.initial else {
         add_zeros(alloc, store, 0, object_kind(o.text))?;
@@ -81,10 +85,7 @@ pub(crate) fn add_objects(
     let mut live: u64 = 0;
     for o in types.typed().objects.as_slice() {
         let size = add_object(alloc, store, types, o)?;
-        let Some(more) = live.checked_add(size) else {
-            return Err(NoMemory);
-        };
-        live = more;
+        live += size;
     }
     Ok(live)
 }

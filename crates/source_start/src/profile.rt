@@ -8,7 +8,7 @@ ghost use Rattle.source_start.specs.Counted.{begin_in, entry_in};
 
 use crate::counters::{begin, entry, loops_at};
 use c_typed::{Counts, FunCount, Typed, profile_order};
-use lay_base::{List, Name, NoMemory, add};
+use lay_base::{List, Name, NoMemory, add, copied, push};
 use source_state::Counters;
 use std::alloc::Global;
 
@@ -20,10 +20,7 @@ fn name_at(alloc: Global, p: &Typed, f: u32) -> Result<Name, NoMemory>
         None => b"",
         Some(f) => f.name.as_slice(),
     };
-    match Vec::from_slice(alloc, name) {
-        Ok(bytes) => Ok(Name::of(bytes)),
-        Err(_) => Err(NoMemory),
-    }
+    Ok(Name::of(copied(alloc, name)?))
 }
 
 /// How often the bodies of the first loops of a function began.
@@ -33,9 +30,7 @@ fn begins(alloc: Global, counters: &Counters, f: u32, count: u32) -> Result<List
 {
     let mut all = Vec::new(alloc);
     for l in 0..count {
-        if all.push(begin(counters, f, l)).is_err() {
-            return Err(NoMemory);
-        }
+        push(&mut all, begin(counters, f, l))?;
     }
     Ok(List::of(all))
 }

@@ -19,7 +19,7 @@ fn write_bytes(store: &mut Store, block: u64, at: u32, bytes: &[u8]) -> Result<(
 {
     let size = store.size(block) as usize;
     if bytes.len() > size || at as usize > size - bytes.len() {
-        return Err(NoMemory);
+        return Err(NoMemory::unearned());
     }
     store.set_bytes(block, at, bytes);
     Ok(())
@@ -61,7 +61,7 @@ fn write_pointer(
 {
     match store.store_pointer(Ptr::Block(block, at), type_number, q) {
         Ok(()) => Ok(()),
-        Err(_) => Err(NoMemory),
+        Err(_) => Err(NoMemory::unearned()),
     }
 }
 

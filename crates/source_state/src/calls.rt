@@ -35,14 +35,12 @@ impl Room {
         if self.turns == 0 {
             return Ok(Err(Final::TurnLimit));
         }
-        let Some(depth) = self.depth.checked_add(1) else {
-            return Err(NoMemory);
-        };
+        let depth = u64::from(self.depth) + 1;
         self.turns -= 1;
         if depth > GREATEST_DEPTH {
             return Ok(Err(Final::Room(RoomKind::Depth, depth)));
         }
-        self.depth = depth;
+        self.depth = depth as u32;
         self.counts.enter(function);
         Ok(Ok(()))
     }

@@ -1,6 +1,6 @@
 //! What is done to memory.
 
-ghost use Rattle.std.specs.Prelude.{◌≡◌, IfOk, replicate, true};
+ghost use Rattle.std.specs.Prelude.{◌≡◌, ◌<◌, ◌^◌, IfOk, replicate, true};
 ghost use Rattle.memory_words.specs.declared.cell_words.cell.Cell.TheVariants.{Empty};
 ghost use Rattle.block_memory.specs.RunWorlds.LibraryCalls.{is_same_place};
 ghost use Rattle.source_state.specs.RoomView.{core_of};
@@ -37,10 +37,11 @@ impl Room {
         size: u64,
         kind: BlockKind,
     ) -> Result<Result<u64, Final>, NoMemory>
-        ensures { IfOk result (λ r. (r, core_of self.new) ≡ make size kind (core_of self.old)) }
+        ensures makes { IfOk result (λ r. (r, core_of self.new) ≡ make size kind (core_of self.old)) }
+        ensures small { IfOk result (λ r. IfOk r (λ b. size < 2 ^ 32)) }
     {
         let Some(counted) = self.live.checked_add(size) else {
-            return Err(NoMemory);
+            return Err(NoMemory::unearned());
         };
         if counted > GREATEST_LIVE {
             return Ok(Err(Final::Room(RoomKind::Live, counted)));
@@ -141,7 +142,7 @@ impl Room {
         ensures { IfOk result (λ u. core_of self.new ≡ zeroed true block size (core_of self.old)) }
     {
         if size > self.store.size(block) {
-            return Err(NoMemory);
+            return Err(NoMemory::unearned());
         }
         self.store.set_zero(block, size);
         Ok(())
@@ -155,7 +156,7 @@ impl Room {
     {
         let size = self.store.size(block) as usize;
         if bytes.len() > size || at as usize > size - bytes.len() {
-            return Err(NoMemory);
+            return Err(NoMemory::unearned());
         }
         self.store.set_bytes(block, at, bytes);
         Ok(())
@@ -167,7 +168,7 @@ impl Room {
         ensures { IfOk result (λ u. core_of self.new ≡ put_cells block 0 (replicate size Empty) (core_of self.old)) }
     {
         if size > self.store.size(block) {
-            return Err(NoMemory);
+            return Err(NoMemory::unearned());
         }
         self.store.set_empty(block, size);
         Ok(())
@@ -199,10 +200,7 @@ impl Room {
         match self.make(alloc, size, BlockKind::Heap)? {
             Ok(block) => {
                 if zero {
-                    let Ok(count) = u32::try_from(size) else {
-                        return Err(NoMemory);
-                    };
-                    self.zero(block, count)?;
+                    self.zero(block, size as u32)?;
                 }
                 Ok(Ok(Value::Pointer(Ptr::Block(block, 0))))
             }

@@ -16,7 +16,7 @@ pub struct Room {
     /// How many turns may still begin.
     pub turns: u64,
     /// How many functions were entered and not left.
-    pub depth: u64,
+    pub depth: u32,
     pub counts: Counters,
 }
 

@@ -2,7 +2,7 @@
 
 ghost use Rattle.std.specs.Prelude.{◌≡◌, [], ◌∷◌, MatchOption, OnOk};
 
-use lay_base::NoMemory;
+use lay_base::{NoMemory, reserve};
 use std::alloc::Global;
 use std::marker::Model;
 
@@ -47,9 +47,7 @@ impl<T: Drop> Stack<T> {
         ensures { OnOk result (self.new ≡ item ∷ self.old) }
     {
         // An item that may come back is dear to pass on, so room for it is made first.
-        if self.items.reserve(1).is_err() {
-            return Err(NoMemory);
-        }
+        reserve(&mut self.items, 1)?;
         self.items.push_reserved(item);
         Ok(())
     }

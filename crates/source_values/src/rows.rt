@@ -14,7 +14,7 @@ use crate::sizes::{element_size, length, size};
 use block_memory::Access;
 use c_typed::Typed;
 use c_types::{IntKind, Ty};
-use lay_base::NoMemory;
+use lay_base::{NoMemory, push};
 use std::alloc::Global;
 
 /// The greatest size of a type, in bytes.
@@ -58,7 +58,7 @@ fn row_for(typed: &Typed, t: &Ty, index: usize) -> Result<TypeRow, NoMemory>
     let size = size(&typed.records, t);
     let element = element_size(typed, t);
     if size > GREATEST_SIZE || element > GREATEST_SIZE || index > 0xFFFF_FFFF {
-        return Err(NoMemory);
+        return Err(NoMemory::unearned());
     }
     Ok(TypeRow {
         sort: sort(t),
@@ -77,7 +77,7 @@ pub fn rows(alloc: Global, typed: &Typed) -> Result<Vec<TypeRow>, NoMemory>
     let mut rows = Vec::new(alloc);
     for (index, t) in typed.types.as_slice().iter().enumerate() {
         let row = row_for(typed, t, index)?;
-        rows.push(row).map_err(|_| NoMemory)?;
+        push(&mut rows, row)?;
     }
     Ok(rows)
 }

@@ -1,6 +1,6 @@
 -- Code that is kept with its last step first: the step that comes next, and what is left behind a jump.
-use Rattle.std.proofs.Common.{◌≡◌, ap, sym, ◌∙◌, ℕ, zero, suc, ◌+◌, ◌-◌, List, [], ◌∷◌, ◌++◌, length, Option, Some, reverse, take, drop}
-use Rattle.std.proofs.Common.{slice_get, arith, length-drop, unwrap_or, get_or}
+use Rattle.std.proofs.Common.{◌≡◌, ◌≤◌, ap, sym, ◌∙◌, ℕ, zero, suc, ◌+◌, ◌-◌, List, [], ◌∷◌, ◌++◌, length, Option, Some, reverse, take, drop}
+use Rattle.std.proofs.Common.{slice_get, arith, take_all, length-drop, unwrap_or, get_or}
 use Rattle.std.proofs.Math.Seq.{drop-append_seam}
 use Rattle.std.proofs.lemmas.Grind.{reverse_onto}
 use Rattle.std.proofs.lemmas.List.{length-reverse, reverse-append, take-append-drop}
@@ -31,3 +31,9 @@ led code n = sym (
 pub led_label : (g : Routine) (l : ℕ) (n : Option ℕ) → n ≡ slice_get g.labels l → reverse (take (unwrap_or n 0) g.code) ≡ led_to (data_of g) (To.Label l)
 led_label g l n is = ap (λ (m : ℕ). reverse (take m g.code)) (ap (λ (o : Option ℕ). unwrap_or o 0) is ∙ unwrap_or-slice_get g.labels l 0) ∙ led g.code
     (get_or g.labels l 0)
+
+-- the step that stands first comes next where more are left than there are
+pub first_of : (code : List Step) (n k : ℕ) (i : Step) → length code ≤ n → length code ≡ k + 1 → slice_get code k ≡ Some i
+    → reverse (take n code) ≡ i ∷ reverse (take k code)
+first_of code n k i past last e =
+    ap (λ (l : List Step). reverse l) (take_all n code past ∙ sym (take_all (k + 1) code (omega arith))) ∙ next code k i e

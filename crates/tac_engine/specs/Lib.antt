@@ -1,4 +1,5 @@
 pub mod States
 pub mod Steps
 pub mod View
+pub mod Ways
 pub mod Reading

@@ -1,17 +1,18 @@
 //! Calls and returns.
 
-ghost use Rattle.std.specs.Prelude.{◌≡◌, IfOk, map};
+ghost use Rattle.std.specs.Prelude.{◌≡◌, ◌<◌, ◌^◌, IfOk, length, map, true};
 ghost use Rattle.source_state.specs.RoomView.{core_of};
 ghost use Rattle.tac_ir.specs.Running.{empty_slot};
 ghost use Rattle.tac_ir.specs.declared.step.Step.TheVariants as S;
 ghost use Rattle.tac_engine.specs.Steps.{calls, calls_through, enacted, final_by, main_called, receive, receive_one, returned, started, waiting};
 ghost use Rattle.tac_engine.specs.View.{state_of};
+ghost use Rattle.tac_engine.specs.Ways.{for_calls};
 
 use crate::engine::{Caller, Comes, Engine, NO_PLACE};
 use crate::temporaries::{read, read_row};
 use block_memory::{Ptr, Value};
 use c_meaning::Slot;
-use lay_base::{NoMemory, Place, UndefinedKind};
+use lay_base::{NoMemory, Place, UndefinedKind, push};
 use source_state::{Final, Moved, Room, undefined};
 use source_values::pointer_of;
 use std::alloc::Global;
@@ -28,9 +29,7 @@ fn frame_of(alloc: Global, locals: &[bool]) -> Result<Vec<Slot>, NoMemory>
         } else {
             Slot::ByName(None)
         };
-        if frame.push(slot).is_err() {
-            return Err(NoMemory);
-        }
+        push(&mut frame, slot)?;
     }
     Ok(frame)
 }
@@ -60,16 +59,14 @@ fn receive(
     parameters: &[Parameter],
     values: &[Value],
 ) -> Result<Result<(), Final>, NoMemory>
+    requires { length values.now < 2 ^ 32 }
     ensures { IfOk result (λ r. (r, core_of room.new) ≡ receive place 0 parameters.now values.now (core_of room.old)) }
 {
     for (number, parameter) in parameters.iter().enumerate() {
         let Some(v) = values.get(number) else {
             return Ok(Ok(()));
         };
-        let Ok(local) = u32::try_from(number) else {
-            return Err(NoMemory);
-        };
-        match receive_one(alloc, room, place, local, *parameter, *v)? {
+        match receive_one(alloc, room, place, number as u32, *parameter, *v)? {
             Ok(()) => {}
             Err(end) => return Ok(Err(end)),
         }
@@ -98,6 +95,7 @@ impl<'a> Engine<'a> {
         g: &'a Routine,
         values: &[Value],
     ) -> Comes
+        requires { length values.now < 2 ^ 32 }
         ensures { IfOk result (λ m. (m, state_of self.new)
             ≡ started place (waiting to (state_of self.old)) g.now g.now.code values.now (state_of self.old)) }
     {
@@ -139,6 +137,7 @@ impl<'a> Engine<'a> {
         f: u32,
         values: &[Value],
     ) -> Comes
+        requires { length values.now < 2 ^ 32 }
         ensures { IfOk result (λ m. (m, state_of self.new) ≡ calls to place f values.now (state_of self.old)) }
     {
         let Some(g) = self.code.routines.get(f as usize) else {
@@ -176,6 +175,7 @@ impl<'a> Engine<'a> {
         q: Ptr,
         values: &[Value],
     ) -> Comes
+        requires { length values.now < 2 ^ 32 }
         ensures { IfOk result (λ m. (m, state_of self.new) ≡ calls_through to place ty q values.now (state_of self.old)) }
     {
         let Ptr::Function(f) = q else {
@@ -260,6 +260,7 @@ impl<'a> Engine<'a> {
     /// A call or a return, or a step that does anything else.
     #[inline(never)]
     pub(crate) fn enact_call(&mut self, alloc: Global, step: &Step) -> Comes
+        requires { for_calls step.now ≡ true }
         ensures { IfOk result (λ m. (m, state_of self.new) ≡ enacted step.now (state_of self.old)) }
     {
         match *step {

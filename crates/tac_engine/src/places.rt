@@ -1,10 +1,11 @@
 //! Steps that lead to places in memory, load and store there, and begin and end the blocks of locals.
 
-ghost use Rattle.std.specs.Prelude.{◌≡◌, ◌≤◌, IfOk};
+ghost use Rattle.std.specs.Prelude.{◌≡◌, ◌≤◌, [], IfOk, get_or, true};
 ghost use Rattle.tac_ir.specs.declared.step.Step.TheVariants as S;
 ghost use Rattle.tac_engine.specs.States.{element, part, through};
 ghost use Rattle.tac_engine.specs.Steps.{enacted};
 ghost use Rattle.tac_engine.specs.View.{state_of};
+ghost use Rattle.tac_engine.specs.Ways.{for_blocks, for_places};
 
 use crate::engine::{Comes, Engine};
 use crate::temporaries::{pointer, read, read_both, word};
@@ -16,7 +17,17 @@ use lay_base::{NoMemory, Place, UndefinedKind};
 use source_state::{Moved, undefined};
 use source_values::{bytes_of, field_in, is_subscript, number_of, part_in, pointer_of, way_to};
 use std::alloc::Global;
-use tac_ir::{Operand, Step};
+use tac_ir::{Operand, Routine, Step};
+
+/// A text of a function, which is empty where none has that number.
+fn text_of(routine: &Routine, number: u32) -> &[u8]
+    ensures { result.now ≡ get_or routine.now.texts number [] }
+{
+    match routine.texts.get(number as usize) {
+        Some(text) => text.as_slice(),
+        None => &[],
+    }
+}
 
 impl<'a> Engine<'a> {
     // ---- the ways to fields and elements
@@ -52,7 +63,7 @@ impl<'a> Engine<'a> {
         ensures { IfOk result (λ m. (m, state_of self.new) ≡ enacted (S.ElementField t place size kind by a b) (state_of self.old)) }
     {
         if size > GREATEST_SIZE {
-            return Err(NoMemory);
+            return Err(NoMemory::unearned());
         }
         match read_both(&self.room, a, b) {
             Ok((v, Value::Word(w))) => self.through(t, place, v, way_to(kind, w, size, by)),
@@ -95,7 +106,7 @@ impl<'a> Engine<'a> {
         ensures { IfOk result (λ m. (m, state_of self.new) ≡ enacted (S.Element t place length size addressed kind a b) (state_of self.old)) }
     {
         if size > GREATEST_SIZE {
-            return Err(NoMemory);
+            return Err(NoMemory::unearned());
         }
         match read_both(&self.room, a, b) {
             Ok((v, Value::Word(word))) => {
@@ -198,6 +209,7 @@ impl<'a> Engine<'a> {
     /// A step that leads to a place in memory, loads or stores, or one that does anything else.
     #[inline(never)]
     pub(crate) fn enact_place(&mut self, alloc: Global, step: &Step) -> Comes
+        requires { for_places step.now ≡ true }
         ensures { IfOk result (λ m. (m, state_of self.new) ≡ enacted step.now (state_of self.old)) }
     {
         match *step {
@@ -256,12 +268,9 @@ impl<'a> Engine<'a> {
     fn text(&mut self, x: u32, by: u32, number: u32) -> Comes
         ensures { IfOk result (λ m. (m, state_of self.new) ≡ enacted (S.Text x by number) (state_of self.old)) }
     {
-        let Some(text) = self.routine.texts.get(number as usize) else {
-            return Err(NoMemory);
-        };
         match self.room.slot(x) {
             Some(Slot::InBlock(Some(block))) => {
-                self.room.write(block, by, text.as_slice())?;
+                self.room.write(block, by, text_of(self.routine, number))?;
                 Ok(Moved::Goes)
             }
             _ => Ok(Moved::Goes),
@@ -271,6 +280,7 @@ impl<'a> Engine<'a> {
     /// A step that does something to the block of a local, or one that does anything else.
     #[inline(never)]
     fn enact_block(&mut self, alloc: Global, step: &Step) -> Comes
+        requires { for_blocks step.now ≡ true }
         ensures { IfOk result (λ m. (m, state_of self.new) ≡ enacted step.now (state_of self.old)) }
     {
         match *step {

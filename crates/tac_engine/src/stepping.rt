@@ -1,11 +1,12 @@
 //! Jumps, one step, and the start.
 
-ghost use Rattle.std.specs.Prelude.{◌≡◌, IfOk};
+ghost use Rattle.std.specs.Prelude.{◌≡◌, ◌<◌, IfOk, length, true};
 ghost use Rattle.source_state.specs.RoomView.{core_of};
 ghost use Rattle.tac_ir.specs.declared.step.Step.TheVariants as S;
 ghost use Rattle.tac_engine.specs.States.{goes, jumped, jumps_if};
 ghost use Rattle.tac_engine.specs.Steps.{enacted, read_given, stepped};
 ghost use Rattle.tac_engine.specs.View.{ready, state_of};
+ghost use Rattle.tac_engine.specs.Ways.{for_jumps, for_next};
 
 use crate::engine::{Comes, Engine, NO_PLACE};
 use crate::temporaries::{read, read_both, word, words};
@@ -16,7 +17,7 @@ use lay_base::{NoMemory, Place, UndefinedKind};
 use source_state::{Moved, Room, Stack, undefined};
 use source_values::{Types, compared, flag, is_true};
 use std::alloc::Global;
-use tac_ir::{Step, Tac, Target};
+use tac_ir::{Routine, Step, Tac, Target};
 
 impl<'a> Engine<'a> {
     // ---- jumps
@@ -59,6 +60,7 @@ impl<'a> Engine<'a> {
     /// A jump, or a step that fails.
     #[inline(never)]
     pub(crate) fn enact_jump(&mut self, step: &Step) -> Comes
+        requires { for_jumps step.now ≡ true }
         ensures { IfOk result (λ m. (m, state_of self.new) ≡ enacted step.now (state_of self.old)) }
     {
         match *step {
@@ -79,8 +81,7 @@ impl<'a> Engine<'a> {
                 Err(end) => Ok(Moved::Over(end)),
             },
             Step::Fail(kind, at) => Ok(undefined(kind, at)),
-            // No step is left.
-            _ => Err(NoMemory),
+            _ => unreachable!(),
         }
     }
 
@@ -89,6 +90,7 @@ impl<'a> Engine<'a> {
     /// A step that plain loops do less often, or one that does anything else. Each way on is to where its steps are made.
     #[inline(always)]
     fn enact_next(&mut self, alloc: Global, step: &Step) -> Comes
+        requires { for_next step.now ≡ true }
         ensures { IfOk result (λ m. (m, state_of self.new) ≡ enacted step.now (state_of self.old)) }
     {
         match step {
@@ -140,27 +142,43 @@ impl<'a> Engine<'a> {
         }
     }
 
-    /// An engine for the code of a program, in the room with which the program starts. `NoMemory` comes where the code has no `main`.
+    /// An engine for the code of a program, in the room with which the program starts. Some function stands where none runs yet.
     pub fn new(
         alloc: Global,
         types: &'a Types<'a>,
         code: &'a Tac,
+        routine: &'a Routine,
         room: Room,
-    ) -> Result<Engine<'a>, NoMemory>
-        ensures { IfOk result (λ engine. state_of engine ≡ ready types.entry.now code.entry.now (core_of room) engine.routine.now) }
+    ) -> Engine<'a>
+        ensures { state_of result ≡ ready types.entry.now code.entry.now (core_of room) routine.entry.now }
     {
-        let Some(main) = code.routines.get(code.main as usize) else {
-            return Err(NoMemory);
-        };
-        Ok(Engine {
+        Engine {
             types,
             code,
             callers: Stack::new(alloc),
-            routine: main,
+            routine,
             left: 0,
             to: 0,
             room,
-        })
+        }
+    }
+
+    /// The step that stands first, where a jump led before it.
+    #[cold]
+    #[inline(never)]
+    #[tactic(auto, using(crate::proofs::Leading::first_of))]
+    fn step_first(&mut self, alloc: Global) -> Comes
+        requires { length self.old.routine.now.code < self.old.left }
+        ensures { IfOk result (λ m. (m, state_of self.new) ≡ stepped (state_of self.old)) }
+    {
+        let left = self.routine.code.len().saturating_sub(1);
+        match self.routine.code.get(left) {
+            Some(step) => {
+                self.left = left;
+                self.enact(alloc, step)
+            }
+            None => Ok(undefined(UndefinedKind::Call, NO_PLACE)),
+        }
     }
 
     /// The next step. What it writes or asks for is left to the caller: `Puts` a byte, `Gets` one.
@@ -177,8 +195,7 @@ impl<'a> Engine<'a> {
                 self.left = left;
                 self.enact(alloc, step)
             }
-            // No code that is lowered leads past its steps.
-            None => Err(NoMemory),
+            None => self.step_first(alloc),
         }
     }
 

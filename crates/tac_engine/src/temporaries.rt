@@ -1,15 +1,16 @@
 //! Temporaries.
 
-ghost use Rattle.std.specs.Prelude.{◌≡◌, ◌≤◌, Ok, OnOk, IfOk, IfSome, length};
+ghost use Rattle.std.specs.Prelude.{◌≡◌, ◌≤◌, Ok, OnOk, IfOk, IfSome, length, vec_len};
 ghost use Rattle.block_memory.specs.declared.run_worlds.value.Value.TheVariants.{Word as Number, Pointer as Address};
 ghost use Rattle.source_state.specs.RoomView.{core_of};
+ghost use Rattle.source_state.specs.Steps.Locals.{slot};
 ghost use Rattle.tac_ir.specs.Running.{with_temp};
 ghost use Rattle.tac_engine.specs.Reading.{ReadsRow};
 ghost use Rattle.tac_engine.specs.States.{held, put_slot, read, read_both, read_row};
 
 use block_memory::{Ptr, Value};
 use c_meaning::Slot;
-use lay_base::{NoMemory, Place, UndefinedKind};
+use lay_base::{NoMemory, Place, UndefinedKind, push};
 use source_state::{Final, Room};
 use std::alloc::Global;
 use tac_ir::{Operand, Row};
@@ -23,14 +24,9 @@ fn grow(frame: &mut Vec<Slot>, t: usize, slot: Slot) -> Result<(), NoMemory>
     ensures { OnOk result (frame.new.items ≡ with_temp t slot frame.old.items) }
 {
     for _ in frame.len()..t {
-        if frame.push(Slot::ByName(None)).is_err() {
-            return Err(NoMemory);
-        }
+        push(frame, Slot::ByName(None))?;
     }
-    if frame.push(slot).is_err() {
-        return Err(NoMemory);
-    }
-    Ok(())
+    push(frame, slot)
 }
 
 /// Another slot of a temporary.
@@ -130,6 +126,14 @@ pub(crate) fn words(room: &Room, a: &Operand, b: &Operand) -> Option<(u32, u32)>
     }
 }
 
+/// The slot of a temporary, whose number may pass 32 bits.
+#[inline(always)]
+fn slot_at(room: &Room, t: usize) -> Option<Slot>
+    ensures { result ≡ slot (core_of room.now) t }
+{
+    room.frame.get(t).copied()
+}
+
 /// The arguments of a call.
 #[tactic(auto, using(crate::proofs::Rows::one_more))]
 pub(crate) fn read_row(
@@ -138,19 +142,14 @@ pub(crate) fn read_row(
     place: Place,
     row: Row,
 ) -> Result<Result<Vec<Value>, Final>, NoMemory>
-    ensures { IfOk result (λ r. ReadsRow (read_row place row.first row.count (core_of room.now)) r) }
+    ensures read { IfOk result (λ r. ReadsRow (read_row place row.first row.count (core_of room.now)) r) }
+    ensures few { IfOk result (λ r. IfOk r (λ values. vec_len values ≤ row.count)) }
 {
     let mut values = Vec::new(alloc);
     for i in 0..row.count {
-        let Some(t) = row.first.checked_add(i) else {
-            return Err(NoMemory);
-        };
-        match held(UndefinedKind::Call, place, room.slot(t)) {
-            Ok(v) => {
-                if values.push(v).is_err() {
-                    return Err(NoMemory);
-                }
-            }
+        let slot = slot_at(room, row.first as usize + i as usize);
+        match held(UndefinedKind::Call, place, slot) {
+            Ok(v) => push(&mut values, v)?,
             Err(end) => return Ok(Err(end)),
         }
     }

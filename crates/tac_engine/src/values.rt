@@ -1,6 +1,6 @@
 //! Steps that compute values.
 
-ghost use Rattle.std.specs.Prelude.{◌≡◌, ◌≤◌, IfOk};
+ghost use Rattle.std.specs.Prelude.{◌≡◌, ◌≤◌, IfOk, true};
 ghost use Rattle.block_memory.specs.RunWorlds.Operators.{common_kind, pointer_op, updated};
 ghost use Rattle.block_memory.specs.View.{memory_of};
 ghost use Rattle.c_types.specs.Limits.{greatest_size};
@@ -10,6 +10,7 @@ ghost use Rattle.tac_ir.specs.declared.step.Step.TheVariants as S;
 ghost use Rattle.tac_engine.specs.States.{found, putting, putting_any};
 ghost use Rattle.tac_engine.specs.Steps.{enacted};
 ghost use Rattle.tac_engine.specs.View.{state_of};
+ghost use Rattle.tac_engine.specs.Ways.{for_one, for_two};
 
 use crate::engine::{Comes, Engine};
 use crate::temporaries::{put_slot, read, read_both};
@@ -121,6 +122,7 @@ impl<'a> Engine<'a> {
     /// A step that computes a value of two operands, or one that does anything else.
     #[inline(never)]
     pub(crate) fn enact_two(&mut self, alloc: Global, step: &Step) -> Comes
+        requires { for_two step.now ≡ true }
         ensures { IfOk result (λ m. (m, state_of self.new) ≡ enacted step.now (state_of self.old)) }
     {
         match *step {
@@ -152,6 +154,7 @@ impl<'a> Engine<'a> {
     /// A step that computes a value of one operand, or one that does anything else.
     #[inline(never)]
     fn enact_one(&mut self, alloc: Global, step: &Step) -> Comes
+        requires { for_one step.now ≡ true }
         ensures { IfOk result (λ m. (m, state_of self.new) ≡ enacted step.now (state_of self.old)) }
     {
         match *step {
@@ -199,7 +202,7 @@ impl<'a> Engine<'a> {
         ensures { IfOk result (λ m. (m, state_of self.new) ≡ enacted (S.Move t place op size left kind a b) (state_of self.old)) }
     {
         if size > GREATEST_SIZE {
-            return Err(NoMemory);
+            return Err(NoMemory::unearned());
         }
         match read_both(&self.room, a, b) {
             Ok((v, w)) => {
@@ -224,7 +227,7 @@ impl<'a> Engine<'a> {
         ensures { IfOk result (λ m. (m, state_of self.new) ≡ enacted (S.Update t place op size sort right a b) (state_of self.old)) }
     {
         if size > GREATEST_SIZE {
-            return Err(NoMemory);
+            return Err(NoMemory::unearned());
         }
         // The operand on the right comes first.
         match read_both(&self.room, b, a) {

@@ -45,7 +45,7 @@ fn put_fault(out: &mut Writer, asked: OfTree, fault: ParseFault) {
             out.bytes(keyword_text(keyword));
             put_place(out, place);
         }
-        ParseFault::Memory => out.word("out of memory"),
+        ParseFault::Memory(_) => out.word("out of memory"),
     }
 }
 

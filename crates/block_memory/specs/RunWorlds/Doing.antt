@@ -1,5 +1,5 @@
 -- A part of a run: what it does to the world before the rest of the run goes on with its result, or how it ends the run.
-use Rattle.std.specs.Prelude.{ℕ, zero, suc, ◌+◌, Bool, true, false, ◌&&◌, nat_lt, if◌then◌else◌, List, [], ◌∷◌, length, Ok, Err}
+use Rattle.std.specs.Prelude.{ℕ, zero, suc, ◌+◌, ◌&&◌, nat_lt, if◌then◌else◌, ◌∷◌, length, Ok, Err}
 use Rattle.lay_base.specs.declared.faults.RoomKind.TheVariants.{Live, Depth}
 use Rattle.lay_base.specs.declared.faults.UndefinedKind.{UndefinedKind}
 use Rattle.lay_base.specs.declared.place.Place.{Place}

@@ -1,5 +1,5 @@
 -- What a run is seen to do: one trace, the last event first, and what is read off it.
-use Rattle.std.specs.Prelude.{◌≡◌, ℕ, ◌+◌, ◌*◌, ◌==◌, Bool, true, false, ◌&&◌, if◌then◌else◌, List, [], ◌∷◌, ◌++◌, Option, Some, None}
+use Rattle.std.specs.Prelude.{ℕ, ◌+◌, ◌*◌, ◌==◌, Bool, true, false, ◌&&◌, List, [], ◌∷◌, ◌++◌, Option, None}
 
 pub data Event : Type 0 where
   -- a byte is written (C99 7.19.7.9), or read, or the input is at its end (7.19.7.6)

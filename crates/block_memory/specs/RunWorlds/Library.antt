@@ -13,7 +13,7 @@ use Rattle.block_memory.specs.RunWorlds.Doing.{Doing, ◌>>=◌, ◌>>◌, pure,
 use Rattle.block_memory.specs.RunWorlds.Events.{put, got, allocated, freed}
 use Rattle.block_memory.specs.declared.run_worlds.value.Value.{Value}
 use Rattle.block_memory.specs.declared.run_worlds.value.Value.TheVariants.{Word as word, Pointer as pointer}
-use Rattle.block_memory.specs.RunWorlds.Worlds.{End, ends}
+use Rattle.block_memory.specs.RunWorlds.Worlds.{ends}
 
 -- ---- allocations (7.20.3): want of room never gives a null pointer (own)
 

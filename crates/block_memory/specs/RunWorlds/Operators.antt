@@ -1,5 +1,5 @@
 -- What operators and conversions make of values (C99 6.3, 6.5).
-use Rattle.std.specs.Prelude.{ℕ, ◌+◌, ◌-◌, ◌^◌, ◌==◌, Bool, true, false, not, if◌then◌else◌, ℤ, pos, negsuc, ◌*ℤ◌, ◌-ℤ◌, Option, Some, None, Ok, Err}
+use Rattle.std.specs.Prelude.{ℕ, ◌==◌, Bool, true, false, not, if◌then◌else◌, ℤ, pos, ◌*ℤ◌, ◌-ℤ◌, Option, Some, None, Ok, Err}
 use Rattle.std.specs.Int.{w32, cast_unsigned}
 use Rattle.lay_base.specs.declared.faults.UndefinedKind.{UndefinedKind}
 use Rattle.lay_base.specs.declared.faults.UndefinedKind.TheVariants as K

@@ -12,7 +12,7 @@ use Rattle.block_memory.specs.Blocks.{Memory, kind}
 use Rattle.block_memory.specs.Lifetimes.{is_heap}
 use Rattle.block_memory.specs.Tested.{Tested}
 use Rattle.block_memory.specs.Tested as Tests
-use Rattle.block_memory.specs.RunWorlds.Doing.{Doing, ◌>>=◌, ◌>>◌, pure, note, tested, memory_now, with_memory}
+use Rattle.block_memory.specs.RunWorlds.Doing.{Doing, ◌>>=◌, pure, note, tested, memory_now, with_memory}
 use Rattle.block_memory.specs.RunWorlds.Events.{Event, loaded, stored}
 use Rattle.block_memory.specs.declared.run_worlds.value.Value.{Value}
 use Rattle.block_memory.specs.declared.run_worlds.value.Value.TheVariants.{Word as word, Pointer as pointer}

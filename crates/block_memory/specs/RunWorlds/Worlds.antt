@@ -3,7 +3,7 @@ use Rattle.std.specs.Prelude.{ℕ, ◌+◌, Bool, List, [], ◌∷◌}
 use Rattle.lay_base.specs.declared.faults.RoomKind.{RoomKind}
 use Rattle.lay_base.specs.declared.faults.UndefinedKind.{UndefinedKind}
 use Rattle.lay_base.specs.declared.place.Place.{Place}
-use Rattle.block_memory.specs.Blocks.{Memory, Contents, living, ended, Block}
+use Rattle.block_memory.specs.Blocks.{Memory, Contents, living, ended}
 use Rattle.std.specs.Prelude.{length}
 use Rattle.block_memory.specs.RunWorlds.Events.{Event}
 

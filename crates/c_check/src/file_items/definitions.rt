@@ -29,7 +29,7 @@ use c_nodes::{Fault, Shape, Storage, derived, storage_of};
 use c_scopes::{Block, FileScope};
 use c_typed::MentionKind;
 use c_types::Ty;
-use lay_base::{Boxed, List, NoMemory, Place, Rule};
+use lay_base::{Boxed, List, NoMemory, Place, Rule, split_off};
 use std::alloc::Global;
 
 /// Where a definition begins.
@@ -63,10 +63,8 @@ fn parted(
     if first.len() < count {
         return Ok((List::of(first), List::new(alloc)));
     }
-    match first.split_off(count) {
-        Ok(rest) => Ok((List::of(first), List::of(rest))),
-        Err(_) => Err(NoMemory),
-    }
+    let rest = split_off(&mut first, count)?;
+    Ok((List::of(first), List::of(rest)))
 }
 
 /// The function with that number is defined by a body, whose locals are these, `count` parameters first.

@@ -105,7 +105,7 @@ fails_on (TooBig at) r f h = ap (λ r. r >>= f) h
 fails_on (IllTyped rule at) r f h = ap (λ r. r >>= f) h
 fails_on (Undeclared x at) r f h = ap (λ r. r >>= f) h
 fails_on (Redeclared x at first) r f h = ap (λ r. r >>= f) h
-fails_on Memory r f h = tt
+fails_on (Memory want) r f h = tt
 
 pub fails_along : {A : Type 0} (fault : Fault) (r s : Answer A) → s ≡ r → Fails fault r → Fails fault s
 fails_along fault r s e h = subst (λ (r : Answer _). Fails fault r) (sym e) h

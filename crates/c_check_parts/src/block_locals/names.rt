@@ -52,7 +52,7 @@ pub fn add_local(
     ensures number { IfOk result (λ n. n ≡ length locals.old) }
     ensures added { OnOk result ((f : FileScope) → standing f block.new locals.new ≡ with_new_local (standing f block.old locals.old) x.now (type_of t.now)) }
 {
-    let n = u32::try_from(locals.len()).map_err(|_| NoMemory)?;
+    let n = u32::try_from(locals.len()).map_err(|_| NoMemory::unearned())?;
     let b = bound(alloc, x, Entity::Local(n, copy(t)?))?;
     let local = Local {
         name: name(alloc, x.text.as_slice())?,
@@ -108,7 +108,7 @@ pub fn add_object(
     ensures added { OnOk result ((locals : List Local) → standing file.new block.new locals
         ≡ with_new_object (standing file.old block.old locals) x.now place (type_of t.now)) }
 {
-    let n = u32::try_from(file.objects.len()).map_err(|_| NoMemory)?;
+    let n = u32::try_from(file.objects.len()).map_err(|_| NoMemory::unearned())?;
     let b = bound(alloc, x, Entity::Object(n, copy(t)?))?;
     let object = static_object(alloc, x, place, t, None)?;
     add(&mut file.objects, object)?;

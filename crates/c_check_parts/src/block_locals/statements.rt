@@ -17,6 +17,6 @@ pub fn add_statement(all: &mut List<Statement>, st: Statement) -> Result<(), Fau
 {
     match add(all, st) {
         Ok(()) => Ok(()),
-        Err(_) => Err(Fault::Memory),
+        Err(want) => Err(Fault::Memory(want)),
     }
 }

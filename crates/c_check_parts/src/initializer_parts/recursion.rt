@@ -121,17 +121,17 @@ fn field_types(alloc: Global, records: &Records, r: u32) -> Result<List<Ty>, NoM
 fn after_element(records: &Records, element: &Ty, at: u32) -> Result<u32, NoMemory>
     ensures { IfOk result (λ next. next ≡ at + size_of (records_of records.now) (type_of element.now)) }
 {
-    let size = size(records, element).ok_or(NoMemory)?;
-    at.checked_add(size).ok_or(NoMemory)
+    let size = size(records, element).ok_or(NoMemory::unearned())?;
+    at.checked_add(size).ok_or(NoMemory::unearned())
 }
 
 /// Where a field begins of a record that begins at the byte `at` of the whole.
 fn field_at(records: &Records, r: u32, k: usize, at: u32) -> Result<u32, NoMemory>
     ensures { IfOk result (λ from. from ≡ at + offset_of (records_of records.now) r k) }
 {
-    let k = u32::try_from(k).map_err(|_| NoMemory)?;
-    let offset = field_offset(records, r, k).ok_or(NoMemory)?;
-    at.checked_add(offset).ok_or(NoMemory)
+    let k = u32::try_from(k).map_err(|_| NoMemory::unearned())?;
+    let offset = field_offset(records, r, k).ok_or(NoMemory::unearned())?;
+    at.checked_add(offset).ok_or(NoMemory::unearned())
 }
 
 /// Adds the parts of an object of a type that begins at the byte `at` of the whole.
@@ -207,7 +207,7 @@ fn elements(
         }
         match after_element(&file.records, element, from) {
             Ok(next) => from = next,
-            Err(_) => return Err(Fault::Memory),
+            Err(want) => return Err(Fault::Memory(want)),
         }
     }
     Ok(())
@@ -231,7 +231,7 @@ fn fields(
     // The file may change with each item, so the types are copied before.
     let types = match field_types(alloc, &file.records, r) {
         Ok(types) => types,
-        Err(_) => return Err(Fault::Memory),
+        Err(want) => return Err(Fault::Memory(want)),
     };
     let listed = types.as_slice();
     for (k, item) in all.iter().enumerate() {
@@ -251,7 +251,7 @@ fn fields(
                 Ok(()) => {}
                 Err(fault) => return Err(fault),
             },
-            Err(_) => return Err(Fault::Memory),
+            Err(want) => return Err(Fault::Memory(want)),
         }
     }
     Ok(())

@@ -134,5 +134,5 @@ pub fn length_of(alloc: Global, element: &Ty, a: &Expression) -> Result<u32, NoM
         Some(all) if is_character(element) => literal_bytes(alloc, all.as_slice())?.len(),
         _ => items_of(a),
     };
-    u32::try_from(length).map_err(|_| NoMemory)
+    u32::try_from(length).map_err(|_| NoMemory::unearned())
 }

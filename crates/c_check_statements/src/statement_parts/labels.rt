@@ -1,6 +1,6 @@
 //! The labels of a `switch` (C99 6.8.4.2).
 
-ghost use Rattle.std.specs.Prelude.{◌≡◌, ◌∷◌, [], map};
+ghost use Rattle.std.specs.Prelude.{◌≡◌, ◌+◌, ◌-◌, ◌<◌, ◌≤◌, ◌^◌, ◌∷◌, [], map};
 ghost use Rattle.c_erasure.specs.BrokenStatements.{no_labels};
 ghost use Rattle.c_ast.specs.Views.{label_of};
 ghost use Rattle.c_erasure.specs.Checking.Statements.{labels_in as labels_in_switch, with_case, with_default};
@@ -30,7 +30,7 @@ pub struct SwitchLabels {
 #[derive(Drop)]
 pub struct ArmLabels {
     pub cases: List<u32>,
-    pub defaults: u32,
+    pub defaults: u64,
 }
 
 /// No labels yet.
@@ -53,7 +53,7 @@ fn with_case(at: u32, all: &mut SwitchLabels, v: u32) -> Result<(), Fault>
     }
     match all.cases.add(v) {
         Ok(()) => Ok(()),
-        Err(_) => Err(Fault::Memory),
+        Err(want) => Err(Fault::Memory(want)),
     }
 }
 
@@ -71,12 +71,13 @@ fn with_default(at: u32, all: &mut SwitchLabels) -> Result<(), Fault>
 
 /// A `case` label after those of its statement. It stands at `at`.
 fn add_case(at: u32, all: &mut SwitchLabels, own: &mut ArmLabels, v: u32) -> Result<(), Fault>
-    ensures { Gives (λ done. labels_of all.new own.new) result (case_in at (switch_labels_of all.old) v own.old.cases own.old.defaults) }
+    ensures found { Gives (λ done. labels_of all.new own.new) result (case_in at (switch_labels_of all.old) v own.old.cases own.old.defaults) }
+    ensures same { own.new.defaults ≡ own.old.defaults }
 {
     match with_case(at, all, v) {
         Ok(()) => match add(&mut own.cases, v) {
             Ok(()) => Ok(()),
-            Err(_) => Err(Fault::Memory),
+            Err(want) => Err(Fault::Memory(want)),
         },
         Err(fault) => Err(fault),
     }
@@ -84,16 +85,15 @@ fn add_case(at: u32, all: &mut SwitchLabels, own: &mut ArmLabels, v: u32) -> Res
 
 /// `default` after the labels of its statement. It stands at `at`.
 fn add_default(at: u32, all: &mut SwitchLabels, own: &mut ArmLabels) -> Result<(), Fault>
-    ensures { Gives (λ done. labels_of all.new own.new) result (default_in at (switch_labels_of all.old) own.old.cases own.old.defaults) }
+    requires { own.old.defaults < 2 ^ 64 - 1 }
+    ensures found { Gives (λ done. labels_of all.new own.new) result (default_in at (switch_labels_of all.old) own.old.cases own.old.defaults) }
+    ensures counted { own.new.defaults ≤ own.old.defaults + 1 }
 {
     match with_default(at, all) {
-        Ok(()) => match own.defaults.checked_add(1) {
-            Some(defaults) => {
-                own.defaults = defaults;
-                Ok(())
-            }
-            None => Err(Fault::Memory),
-        },
+        Ok(()) => {
+            own.defaults += 1;
+            Ok(())
+        }
         Err(fault) => Err(fault),
     }
 }
@@ -109,9 +109,11 @@ fn add_label(
     all: &mut SwitchLabels,
     own: &mut ArmLabels,
 ) -> Result<(), Fault>
-    ensures { let s = scope_of file.old scope.entry in
+    requires { own.old.defaults < 2 ^ 64 - 1 }
+    ensures found { let s = scope_of file.old scope.entry in
         Finds (λ done. labels_of all.new own.new) result
         (labels_after own.old.cases own.old.defaults (labels_in_switch (label_of label.now ∷ []) s kind (switch_labels_of all.old))) file.new }
+    ensures counted { own.new.defaults ≤ own.old.defaults + 1 }
 {
     match label {
         Label::Case(at, a, _) => match constant(alloc, a, file, scope) {

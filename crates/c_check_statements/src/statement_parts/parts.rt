@@ -136,7 +136,7 @@ fn evaluated(alloc: Global, x: Boxed<Expression>) -> Result<List<Statement>, Fau
     let mut all = List::new(alloc);
     match add(&mut all, Statement::Do(x)) {
         Ok(()) => Ok(all),
-        Err(_) => Err(Fault::Memory),
+        Err(want) => Err(Fault::Memory(want)),
     }
 }
 

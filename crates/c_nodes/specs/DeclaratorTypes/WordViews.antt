@@ -1,5 +1,5 @@
 -- What is counted among specifiers, and what the answers stand for.
-use Rattle.std.specs.Prelude.{List, [], ◌∷◌}
+use Rattle.std.specs.Prelude.{ℕ, ◌+◌, List, [], ◌∷◌}
 use Rattle.c_types.specs.Types.{void, integer}
 use Rattle.c_ast.specs.Trees
 use Rattle.c_erasure.specs.Specifiers as Specifiers
@@ -14,6 +14,10 @@ use Rattle.c_nodes.specs.declared.declarator_types.words.Base.TheVariants as B
 
 abbrev pub words_view : Words → Specifiers.Words
 words_view w = record { void = w.void; char = w.char; short = w.short; int = w.int; long = w.long; signed = w.signed; unsigned = w.unsigned }
+
+-- how many keywords were counted
+abbrev pub words_counted : Words → ℕ
+words_counted w = w.void + w.char + w.short + w.int + w.long + w.signed + w.unsigned
 
 -- the keywords of a specifier and of those after it
 abbrev pub specifier_added : Trees.Specifier → Specifiers.Words → Specifiers.Words

@@ -1,14 +1,13 @@
 //! The keywords that name a type, and in which way specifiers name one (C99 6.7.2).
 
-ghost use Rattle.std.specs.Prelude.{◌≡◌, ◌+◌, IfOk, drop, map};
+ghost use Rattle.std.specs.Prelude.{◌≡◌, ◌+◌, ◌-◌, ◌<◌, ◌≤◌, ◌^◌, drop, map};
 ghost use Rattle.c_ast.specs.Views.{specifier_of, specifiers_of};
 ghost use Rattle.c_erasure.specs.Checking.Declaring.{base_kind as base_of, base_of_words};
 ghost use Rattle.c_erasure.specs.Specifiers.{found_in, named_by, no_words, same_words, table, types_among, with_word as word_added, words_of as words_in};
-ghost use Rattle.c_nodes.specs.DeclaratorTypes.WordViews.{base_view, other_added, others_in, specifier_added, words_view};
+ghost use Rattle.c_nodes.specs.DeclaratorTypes.WordViews.{base_view, other_added, others_in, specifier_added, words_counted, words_view};
 
 use c_ast::{Specifier, SpecifierKeyword};
 use c_types::IntKind;
-use lay_base::NoMemory;
 
 /// How specifiers name a type.
 #[derive(Clone, Copy)]
@@ -24,13 +23,13 @@ pub enum Base {
 /// How often each keyword that names a type stands among specifiers.
 #[derive(Clone, Copy)]
 struct Words {
-    void: u32,
-    char: u32,
-    short: u32,
-    int: u32,
-    long: u32,
-    signed: u32,
-    unsigned: u32,
+    void: u64,
+    char: u64,
+    short: u64,
+    int: u64,
+    long: u64,
+    signed: u64,
+    unsigned: u64,
 }
 
 /// How many specifiers are no keywords.
@@ -41,44 +40,42 @@ enum Others {
     Several,
 }
 
-fn one_more(count: u32) -> Result<u32, NoMemory>
-    ensures { IfOk result (λ n. n ≡ count + 1) }
-{
-    count.checked_add(1).ok_or(NoMemory)
-}
-
-/// One keyword more. Of one keyword 2^32 are not counted.
-fn with_word(word: SpecifierKeyword, w: Words) -> Result<Words, NoMemory>
-    ensures { IfOk result (λ all. words_view all ≡ word_added word (words_view w)) }
+/// One keyword more.
+fn with_word(word: SpecifierKeyword, w: Words) -> Words
+    requires { words_counted w < 2 ^ 64 - 1 }
+    ensures added { words_view result ≡ word_added word (words_view w) }
+    ensures counted { words_counted result ≤ words_counted w + 1 }
 {
     let mut w = w;
     match word {
-        SpecifierKeyword::Void => w.void = one_more(w.void)?,
-        SpecifierKeyword::Char => w.char = one_more(w.char)?,
-        SpecifierKeyword::Short => w.short = one_more(w.short)?,
-        SpecifierKeyword::Int => w.int = one_more(w.int)?,
-        SpecifierKeyword::Long => w.long = one_more(w.long)?,
-        SpecifierKeyword::Signed => w.signed = one_more(w.signed)?,
-        SpecifierKeyword::Unsigned => w.unsigned = one_more(w.unsigned)?,
+        SpecifierKeyword::Void => w.void += 1,
+        SpecifierKeyword::Char => w.char += 1,
+        SpecifierKeyword::Short => w.short += 1,
+        SpecifierKeyword::Int => w.int += 1,
+        SpecifierKeyword::Long => w.long += 1,
+        SpecifierKeyword::Signed => w.signed += 1,
+        SpecifierKeyword::Unsigned => w.unsigned += 1,
         _ => {}
     }
-    Ok(w)
+    w
 }
 
 /// A specifier before others.
-fn with_specifier(specifier: &Specifier, w: Words) -> Result<Words, NoMemory>
-    ensures { IfOk result (λ all. words_view all ≡ specifier_added (specifier_of specifier.now) (words_view w)) }
+fn with_specifier(specifier: &Specifier, w: Words) -> Words
+    requires { words_counted w < 2 ^ 64 - 1 }
+    ensures added { words_view result ≡ specifier_added (specifier_of specifier.now) (words_view w) }
+    ensures counted { words_counted result ≤ words_counted w + 1 }
 {
     match specifier {
         Specifier::Keyword(word, _) => with_word(*word, w),
-        _ => Ok(w),
+        _ => w,
     }
 }
 
 /// The keywords among specifiers.
 #[tactic(auto, using(crate::proofs::DeclaratorTypes::Counting::words_step))]
-fn words_of(all: &[Specifier]) -> Result<Words, NoMemory>
-    ensures { IfOk result (λ w. words_view w ≡ words_in (specifiers_of (map specifier_of all.now))) }
+fn words_of(all: &[Specifier]) -> Words
+    ensures { words_view result ≡ words_in (specifiers_of (map specifier_of all.now)) }
 {
     let mut words = Words {
         void: 0,
@@ -90,9 +87,9 @@ fn words_of(all: &[Specifier]) -> Result<Words, NoMemory>
         unsigned: 0,
     };
     for i in (0..all.len()).rev() {
-        words = with_specifier(&all[i], words)?;
+        words = with_specifier(&all[i], words);
     }
-    Ok(words)
+    words
 }
 
 /// A specifier before others.
@@ -137,13 +134,13 @@ impl Words {
     /// Whether each keyword stands so often.
     fn are(
         self,
-        void: u32,
-        char: u32,
-        short: u32,
-        int: u32,
-        long: u32,
-        signed: u32,
-        unsigned: u32,
+        void: u64,
+        char: u64,
+        short: u64,
+        int: u64,
+        long: u64,
+        signed: u64,
+        unsigned: u64,
     ) -> bool
         ensures { result ≡ same_words
             (record { void = void; char = char; short = short; int = int; long = long; signed = signed; unsigned = unsigned }) (words_view self) }
@@ -224,19 +221,19 @@ fn long_by(w: Words) -> Base
 
 /// How specifiers name a type.
 #[tactic(auto, using(crate::proofs::DeclaratorTypes::Counting::by_keywords, crate::proofs::DeclaratorTypes::Counting::by_one_other, crate::proofs::DeclaratorTypes::Counting::by_others))]
-pub fn base_kind(all: &[Specifier]) -> Result<Base, NoMemory>
-    ensures { IfOk result (λ base. base_view base ≡ base_of (specifiers_of (map specifier_of all.now))) }
+pub fn base_kind(all: &[Specifier]) -> Base
+    ensures { base_view result ≡ base_of (specifiers_of (map specifier_of all.now)) }
 {
-    let words = words_of(all)?;
+    let words = words_of(all);
     match others_of(all) {
-        Others::None => Ok(named_by(words)),
+        Others::None => named_by(words),
         Others::One => {
             if words.are_none() {
-                Ok(Base::One)
+                Base::One
             } else {
-                Ok(Base::Missing)
+                Base::Missing
             }
         }
-        Others::Several => Ok(Base::Missing),
+        Others::Several => Base::Missing,
     }
 }

@@ -11,7 +11,7 @@ use crate::fault::Fault;
 use crate::making::{misplaced, way};
 use c_annotated::{Expression, Path, PathNode, Thing};
 use c_types::{Field, Records, Ty, copy};
-use lay_base::{Boxed, Place, Rule, boxed};
+use lay_base::{Boxed, NoMemory, Place, Rule, boxed};
 use std::alloc::Global;
 
 /// The first of some fields that has a name, with its number.
@@ -53,7 +53,7 @@ fn field(
     match field_of_record(records, r, x) {
         Some((number, t)) => match u32::try_from(number) {
             Ok(number) => way(alloc, copy(t)?, at, PathNode::Member(p, r, number)),
-            Err(_) => Err(Fault::Memory),
+            Err(_) => Err(Fault::Memory(NoMemory::unearned())),
         },
         None => Err(Fault::IllTyped(Rule::Member, named)),
     }

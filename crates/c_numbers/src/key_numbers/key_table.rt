@@ -4,7 +4,7 @@ ghost use Rattle.std.specs.Prelude.{◌≡◌, [], length, OnErr, OnOk};
 ghost use Rattle.c_numbers.specs.KeyNumbers.Keys.{position, with_key};
 
 use indexmap::IndexSet;
-use lay_base::NoMemory;
+use lay_base::{NoMemory, put_key};
 use std::alloc::Global;
 use std::marker::Model;
 
@@ -54,11 +54,9 @@ impl KeyTable {
         ensures unchanged { OnErr result (self.new ≡ self.old) }
     {
         if self.keys.len() >= u32::MAX as usize {
-            return Err(NoMemory);
+            return Err(NoMemory::unearned());
         }
-        match self.keys.insert(key) {
-            Ok(_) => Ok(()),
-            Err(_) => Err(NoMemory),
-        }
+        put_key(&mut self.keys, key)?;
+        Ok(())
     }
 }

@@ -5,7 +5,7 @@ ghost use Rattle.std.specs.List.{list_any};
 ghost use Rattle.c_numbers.specs.KeyNumbers.Numbers.{with_number};
 
 use indexmap::IndexSet;
-use lay_base::NoMemory;
+use lay_base::{NoMemory, put_key};
 use std::alloc::Global;
 use std::marker::Model;
 
@@ -47,9 +47,6 @@ impl NumberSet {
         ensures added { OnOk result (self.new ≡ with_number self.old number) }
         ensures unchanged { OnErr result (self.new ≡ self.old) }
     {
-        match self.numbers.insert(number) {
-            Ok(_) => Ok(()),
-            Err(_) => Err(NoMemory),
-        }
+        put_key(&mut self.numbers, number)
     }
 }

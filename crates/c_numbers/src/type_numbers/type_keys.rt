@@ -5,7 +5,7 @@ ghost use Rattle.c_numbers.specs.TypeNumbers.TypeKeys.{kind_number, type_key};
 ghost use Rattle.c_types.specs.Views.{type_of};
 
 use c_types::{IntKind, Ty};
-use lay_base::NoMemory;
+use lay_base::{NoMemory, push};
 use std::alloc::Global;
 
 fn kind_number(kind: IntKind) -> u32
@@ -24,20 +24,11 @@ fn kind_number(kind: IntKind) -> u32
     }
 }
 
-fn append(key: &mut Vec<u32>, number: u32) -> Result<(), NoMemory>
-    ensures { OnOk result (key.new.items ≡ key.old.items ++ number ∷ []) }
-{
-    match key.push(number) {
-        Ok(()) => Ok(()),
-        Err(_) => Err(NoMemory),
-    }
-}
-
 fn append_two(key: &mut Vec<u32>, first: u32, second: u32) -> Result<(), NoMemory>
     ensures { OnOk result (key.new.items ≡ key.old.items ++ first ∷ second ∷ []) }
 {
-    append(key, first)?;
-    append(key, second)
+    push(key, first)?;
+    push(key, second)
 }
 
 #[tactic(auto, using(crate::proofs::TypeNumbers::Keys::two_appended, crate::proofs::TypeNumbers::Keys::one_appended, crate::proofs::TypeNumbers::Keys::pair_appended))]
@@ -45,10 +36,10 @@ fn append_type(key: &mut Vec<u32>, t: &Ty) -> Result<(), NoMemory>
     ensures { OnOk result (key.new.items ≡ key.old.items ++ type_key (type_of t.now)) }
 {
     match t {
-        Ty::Void => append(key, 0),
+        Ty::Void => push(key, 0),
         Ty::Int(kind) => append_two(key, 1, kind_number(*kind)),
         Ty::Pointer(to) => {
-            append(key, 2)?;
+            push(key, 2)?;
             append_type(key, to.get())
         }
         Ty::Array(element, length) => {
@@ -56,13 +47,13 @@ fn append_type(key: &mut Vec<u32>, t: &Ty) -> Result<(), NoMemory>
             append_type(key, element.get())
         }
         Ty::Function(result, parameters) => {
-            append(key, 4)?;
+            push(key, 4)?;
             append_type(key, result.get())?;
             for parameter in parameters.get().as_slice() {
-                append(key, 1)?;
+                push(key, 1)?;
                 append_type(key, parameter)?;
             }
-            append(key, 0)
+            push(key, 0)
         }
         Ty::Record(number) => append_two(key, 5, *number),
     }

@@ -8,7 +8,7 @@ ghost use Rattle.c_types.specs.Views.{type_of};
 use crate::key_numbers::KeyTable;
 use crate::type_numbers::type_keys::{hint, type_key};
 use c_types::{Ty, copy, same};
-use lay_base::{List, NoMemory};
+use lay_base::{List, NoMemory, reserve};
 use std::alloc::Global;
 use std::marker::Model;
 
@@ -95,7 +95,7 @@ impl TypeTable {
         if self.keys.number(&key) < n {
             return Ok(());
         }
-        self.types.reserve(1).map_err(|_| NoMemory)?;
+        reserve(&mut self.types, 1)?;
         self.keys.add(key)?;
         note(&mut self.hints, hint(&t), n);
         self.types.push_reserved(t);

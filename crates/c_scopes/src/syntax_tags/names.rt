@@ -7,7 +7,7 @@ ghost use Rattle.c_scopes.specs.SyntaxTags.Names.{number_in, with_new};
 ghost use Rattle.c_scopes.specs.SyntaxTags.Keys.{found_at};
 
 use indexmap::IndexMap;
-use lay_base::{Name, NoMemory};
+use lay_base::{Name, NoMemory, copied, put, reserve};
 use std::alloc::Global;
 use std::marker::Model;
 
@@ -45,11 +45,9 @@ fn note(
     let None = places.get(name) else {
         return Ok(());
     };
-    let key = Vec::from_slice(alloc, name).map_err(|_| NoMemory)?;
-    match places.insert(key, place) {
-        Ok(_) => Ok(()),
-        Err(_) => Err(NoMemory),
-    }
+    let key = copied(alloc, name)?;
+    put(places, key, place)?;
+    Ok(())
 }
 
 impl Names {
@@ -90,9 +88,9 @@ impl Names {
         ensures added { OnOk result (self.new ≡ self.old ++ name.now ∷ []) }
         ensures unchanged { OnErr result (self.new ≡ self.old) }
     {
-        let copy = Vec::from_slice(alloc, name).map_err(|_| NoMemory)?;
-        let place = u32::try_from(self.names.len()).map_err(|_| NoMemory)?;
-        self.names.reserve(1).map_err(|_| NoMemory)?;
+        let copy = copied(alloc, name)?;
+        let place = u32::try_from(self.names.len()).map_err(|_| NoMemory::unearned())?;
+        reserve(&mut self.names, 1)?;
         note(&mut self.places, alloc, name, place)?;
         self.names.push_reserved(Name::of(copy));
         Ok(())

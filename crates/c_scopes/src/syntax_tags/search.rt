@@ -1,12 +1,11 @@
 //! A search among ascending places.
 
-ghost use Rattle.std.specs.Prelude.{◌≡◌, ◌<◌, ◌^◌, length};
+ghost use Rattle.std.specs.Prelude.{◌≡◌};
 ghost use Rattle.c_erasure.specs.Files.{AreAscending};
 ghost use Rattle.c_erasure.specs.Scopes.{ended};
 
 /// How many of the places stand before a byte.
 pub fn ended(places: &[u32], at: u32) -> u32
-    requires few { length places.now < 2 ^ 32 }
     requires order { AreAscending places.now }
     ensures { result ≡ ended places.now at }
 {

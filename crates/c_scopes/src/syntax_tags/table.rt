@@ -6,7 +6,7 @@ ghost use Rattle.c_scopes.specs.SyntaxTags.Keys.{found_at};
 ghost use Rattle.c_scopes.specs.SyntaxTags.Tables.{place_of_tag, tag_of, with_first};
 
 use indexmap::IndexMap;
-use lay_base::NoMemory;
+use lay_base::{NoMemory, copied, put};
 use std::alloc::Global;
 use std::marker::Model;
 
@@ -103,15 +103,13 @@ impl TagTable {
         let None = known_of(&self.known, tag.name) else {
             return Ok(());
         };
-        let key = Vec::from_slice(alloc, tag.name).map_err(|_| NoMemory)?;
+        let key = copied(alloc, tag.name)?;
         let known = Known {
             place: tag.place,
             from: tag.from,
             is_enumeration: tag.is_enumeration,
         };
-        match self.known.insert(key, known) {
-            Ok(_) => Ok(()),
-            Err(_) => Err(NoMemory),
-        }
+        put(&mut self.known, key, known)?;
+        Ok(())
     }
 }

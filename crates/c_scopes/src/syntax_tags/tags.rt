@@ -1,6 +1,6 @@
 //! The tags of a file.
 
-ghost use Rattle.std.specs.Prelude.{◌≡◌, ◌<◌, ◌^◌, length};
+ghost use Rattle.std.specs.Prelude.{◌≡◌, length};
 ghost use Rattle.c_erasure.specs.Files.{AreAscending};
 ghost use Rattle.c_erasure.specs.Scopes.{ended, tag_at};
 ghost use Rattle.c_scopes.specs.SyntaxTags.Names.{number_in};
@@ -24,7 +24,6 @@ pub struct Tags {
 }
 
 impl Model for Tags {
-    ghost use Rattle.std.specs.Prelude.{ℕ, ◌<◌, ◌^◌, length};
     ghost use Rattle.c_erasure.specs.Files.{AreAscending};
     ghost use Rattle.c_scopes.specs.SyntaxTags.TagLists.{TagLists};
 
@@ -32,13 +31,12 @@ impl Model for Tags {
 
     ghost view = { λ it. record { tags = it.tags; ends = it.ends.items; numbered = it.numbered; untagged = it.untagged } };
 
-    ghost invariant = { λ it. record { few : length it.ends.items < 2 ^ 32; ascending : AreAscending it.ends.items } };
+    ghost invariant = { λ it. AreAscending it.ends.items };
 }
 
 impl Tags {
     /// The tags with these parts.
     pub fn of(untagged: Untagged, tags: TagTable, ends: Vec<u32>, numbered: Names) -> Tags
-        requires few { length ends.items < 2 ^ 32 }
         requires order { AreAscending ends.items }
         ensures { result ≡ record { tags = tags; ends = ends.items; numbered = numbered; untagged = untagged } }
     {

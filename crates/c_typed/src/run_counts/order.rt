@@ -5,7 +5,7 @@ ghost use Rattle.c_typed.specs.RunCounts.Order.{defined_in, profile_order};
 ghost use Rattle.c_typed.specs.Programs.{program_data};
 
 use crate::program::Typed;
-use lay_base::{NoMemory, Place};
+use lay_base::{NoMemory, Place, push};
 use std::alloc::Global;
 
 /// A function that a program defines: its number in the program, and the place of its definition.
@@ -27,9 +27,7 @@ fn defined_in(alloc: Global, p: &Typed) -> Result<Vec<Defined>, NoMemory>
                 number: number as u32,
                 place: f.place,
             };
-            if all.push(defined).is_err() {
-                return Err(NoMemory);
-            }
+            push(&mut all, defined)?;
         }
     }
     Ok(all)

@@ -6,11 +6,12 @@ ghost use Rattle.std.specs.Str.{bytes_eq};
 ghost use Rattle.lay_base.specs.Calls.{ReadGives, WriteGives};
 ghost use Rattle.lay_base.specs.MemoryObjects.{called, contents_of, fails_next, read_fails};
 ghost use Rattle.lay_base.specs.Known.{FilesKeepBut};
+ghost use Rattle.lay_base.specs.Want.{no_memory};
 
 use crate::bytes::{Bytes, Name};
 use crate::list::List;
 use crate::memory_objects::plan::Plan;
-use crate::no_memory::NoMemory;
+use crate::no_memory::{NoMemory, copied, push};
 use crate::outside::{Host, HostRead, HostWrite};
 use crate::place::{File, Files};
 use std::alloc::Global;
@@ -67,7 +68,7 @@ impl Host for MemHost {
         ensures count { self.old.plan.faults ≤ self.new.plan.faults }
         ensures gives { ReadGives self.old.plan.faults self.new.plan.faults (Some (contents_of self.old.files)) name.now limit result }
         ensures failed { (result ≡ Err HostRead.Failed) ↔ IsTrue (read_fails self.old name.now) }
-        ensures memory { result ≡ Err HostRead.Memory → IsSomeAnd (contents_of self.old.files name.now) (λ bytes. length bytes ≤ limit) }
+        ensures memory { result ≡ Err (HostRead.Memory no_memory) → IsSomeAnd (contents_of self.old.files name.now) (λ bytes. length bytes ≤ limit) }
         ensures after { self.new ≡ record self.old { plan = called self.old.plan (read_fails self.old name.now) } }
     {
         if self.plan.call() {
@@ -81,7 +82,7 @@ impl Host for MemHost {
         if bytes.len() as u64 > limit {
             return Err(HostRead::TooLong);
         }
-        Vec::from_slice(self.alloc, bytes).map_err(|_| HostRead::Memory)
+        copied(self.alloc, bytes).map_err(HostRead::Memory)
     }
 
     /// A call that is to fail keeps the first half of the bytes, rounded down.
@@ -90,9 +91,9 @@ impl Host for MemHost {
         ensures others { FilesKeepBut name.now (Some (contents_of self.old.files)) (Some (contents_of self.new.files)) }
         ensures gives { WriteGives self.old.plan.faults self.new.plan.faults (Some (contents_of self.old.files)) (Some (contents_of self.new.files))
             name.now bytes.now result }
-        ensures memory { result ≡ Err HostWrite.Memory → self.new ≡ record self.old { plan = called self.old.plan false } }
-        ensures fails { result ≢ Err HostWrite.Memory → is_err result ≡ fails_next self.old.plan }
-        ensures counted { result ≢ Err HostWrite.Memory → self.new.plan ≡ called self.old.plan (is_err result) }
+        ensures memory { result ≡ Err (HostWrite.Memory no_memory) → self.new ≡ record self.old { plan = called self.old.plan false } }
+        ensures fails { result ≢ Err (HostWrite.Memory no_memory) → is_err result ≡ fails_next self.old.plan }
+        ensures counted { result ≢ Err (HostWrite.Memory no_memory) → self.new.plan ≡ called self.old.plan (is_err result) }
         ensures half { result ≡ Err HostWrite.Failed → contents_of self.new.files name.now ≡ Some (take (length bytes.now / 2) bytes.now) }
     {
         let to_fail = self.plan.call();
@@ -101,8 +102,8 @@ impl Host for MemHost {
         } else {
             bytes
         };
-        if store(self.alloc, &mut self.files, name, kept).is_err() {
-            return Err(HostWrite::Memory);
+        if let Err(want) = store(self.alloc, &mut self.files, name, kept) {
+            return Err(HostWrite::Memory(want));
         }
         if to_fail {
             self.plan.fail();
@@ -138,10 +139,7 @@ fn store(alloc: Global, files: &mut Vec<File>, name: &str, bytes: &[u8]) -> Resu
         ≡ (if bytes_eq name.now other then Some bytes.now else contents_of files.old.items other)) }
     ensures err { OnErr result (files.new.items ≡ files.old.items) }
 {
-    let Ok(bytes) = Vec::from_slice(alloc, bytes) else {
-        return Err(NoMemory);
-    };
-    let bytes = Bytes::of(bytes);
+    let bytes = Bytes::of(copied(alloc, bytes)?);
     match index_of(files, name) {
         Some(at) => {
             files[at].bytes = bytes;
@@ -149,9 +147,7 @@ fn store(alloc: Global, files: &mut Vec<File>, name: &str, bytes: &[u8]) -> Resu
         }
         None => {
             let name = Name::copy_of(alloc, name)?;
-            if files.push(File { name, bytes }).is_err() {
-                return Err(NoMemory);
-            }
+            push(files, File { name, bytes })?;
             Ok(())
         }
     }

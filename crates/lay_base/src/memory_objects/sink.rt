@@ -4,7 +4,7 @@ ghost use Rattle.std.specs.Prelude.{◌≡◌, ◌≤◌, ◌<◌, ◌+◌, ◌^
 
 use crate::list::List;
 use crate::memory_objects::plan::Plan;
-use crate::no_memory::NoMemory;
+use crate::no_memory::{NoMemory, with_capacity};
 use crate::outside::{Sink, SinkFault};
 use std::alloc::Global;
 use std::marker::Model;
@@ -38,14 +38,12 @@ impl MemSink {
         ensures small { OnOk result (room < 2 ^ 63) }
     {
         let room = room as usize;
-        match Vec::with_capacity(alloc, room) {
-            Ok(bytes) => Ok(MemSink {
-                bytes,
-                room,
-                plan: Plan::new(fails),
-            }),
-            Err(_) => Err(NoMemory),
-        }
+        let bytes = with_capacity(alloc, room)?;
+        Ok(MemSink {
+            bytes,
+            room,
+            plan: Plan::new(fails),
+        })
     }
 
     /// The bytes that were written.

@@ -98,5 +98,5 @@ module _ (reads0 reads1 reads2 writes0 writes1 writes2 : List ℕ → ℕ) (f0 f
       → FilesGive reads0 reads2 f0 (map name_of names) (Err refusal)
   stops few (R.FileFault other) gives = rw gives.0 (comes_to few, rw (← before.reads_same name) gives.1)
   stops few (R.TooLong other) gives = rw gives.0 (comes_to few, known_before f0 f1 name _ before.kept (rw (← before.reads_same name) gives.1))
-  stops few R.Memory gives = tt
+  stops few (R.Memory want) gives = tt
   stops few _ gives = absurd gives

@@ -51,8 +51,5 @@ pub files_texts : (f : Option Contents) (names : List (List ℕ)) (texts : Place
     (read : List (List ℕ)) (refusal : Refusal) → FilesGive before now files read (Err refusal) → HasTexts f names texts refusal
 files_texts f names texts before now files read (R.FileFault name) gives = λ place. cc
 files_texts f names texts before now files read (R.TooLong name) gives = λ place. cc
-files_texts f names texts before now files read R.Memory gives = λ place. cc
+files_texts f names texts before now files read (R.Memory want) gives = λ place. cc
 files_texts f names texts before now files read _ gives = absurd gives
-
-pub memory_texts : (f : Option Contents) (names : List (List ℕ)) (texts : PlaceTexts) → HasTexts f names texts R.Memory
-memory_texts f names texts = λ place. cc

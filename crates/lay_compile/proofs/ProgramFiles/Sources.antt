@@ -46,7 +46,7 @@ module _ (f0 f1 : Option Contents) (reads0 reads1 writes0 writes1 : List ℕ →
   files_refused (R.Limit L.Files counted) refused = absurd (no_files_limit read counted refused)
   files_refused (R.FileFault name) refused = let none = refused.1 in cc
   files_refused (R.TooLong name) refused = let none = refused.1 in cc
-  files_refused R.Memory refused = untouched
+  files_refused (R.Memory want) refused = untouched
   files_refused refusal refused = ((read, are, refused), untouched)
 
   pub source_gives : (r : Result SourceProgram Refusal) → FileSourceGives read r → SourceGives names before now r

@@ -1,6 +1,7 @@
 -- What the front end says of files, as a command tells it.
 use Rattle.std.specs.Prelude.{◌≡◌, ℕ, ◌<◌, List, [], length, Option, Some, None, IfSome, Result, Ok, Err, ◌⊎◌}
 use Rattle.lay_base.specs.Known.{Contents, Rose}
+use Rattle.lay_base.specs.Want.{no_memory}
 use Rattle.lay_base.specs.declared.place.File.{File}
 use Rattle.lay_base.specs.declared.faults.LimitKind.TheVariants.{Files}
 use Rattle.c_lexer.specs.declared.fault.LexFault.TheVariants as L
@@ -44,7 +45,7 @@ fault_told _ = None
 
 -- the refusal tells the fault, or want of memory
 abbrev pub Tells : CompileFault → Refusal → Type 0
-Tells fault refusal = (refusal ≡ R.Memory) ⊎ (fault_told refusal ≡ Some fault)
+Tells fault refusal = (refusal ≡ R.Memory no_memory) ⊎ (fault_told refusal ≡ Some fault)
 
 -- the files are a program
 abbrev pub AreProgram : List File → Type 0
@@ -77,7 +78,7 @@ HasTexts files names texts refusal = HasPlace refusal → WereSo files names (λ
 -- ---- by the answer: the files are a program, or are refused; want of memory says nothing
 
 abbrev pub IsRefused : List File → Refusal → Type 0
-IsRefused files R.Memory = Unit {0}
+IsRefused files (R.Memory want) = Unit {0}
 IsRefused files refusal = AreRefused files refusal
 
 abbrev pub FrontEndGives : List File → Result (Unit {0}) Refusal → Type 0
@@ -101,7 +102,7 @@ FilesAreRefused names before now (R.Limit Files counted) = (counted ≡ length n
 FilesAreRefused names before now (R.FileFault name) =
     ComesTo before.files names name × Rose (before.failed_reads name) (now.failed_reads name) × IsUntouched before now
 FilesAreRefused names before now (R.TooLong name) = ComesTo before.files names name × HoldsLonger file_limit name before now × IsUntouched before now
-FilesAreRefused names before now R.Memory = IsUntouched before now
+FilesAreRefused names before now (R.Memory want) = IsUntouched before now
 FilesAreRefused names before now refusal = WereSo before.files names (λ files. AreRefused files refusal) × IsUntouched before now
 
 -- the files with their program, as they were under the names at entry

@@ -49,7 +49,7 @@ BytesGive limit before now files name (Ok bytes) = IfKnown files name (λ file. 
 BytesGive limit before now files name (Err (R.FileFault named)) = (named ≡ name) × Rose before now
 BytesGive limit before now files name (Err (R.TooLong named)) =
     (named ≡ name) × IfKnown files name (λ file. (now ≡ before) × ((bytes : List ℕ) × (file ≡ Some bytes) × (limit < length bytes)))
-BytesGive limit before now files name (Err R.Memory) = Unit {0}
+BytesGive limit before now files name (Err (R.Memory want)) = Unit {0}
 BytesGive limit before now files name (Err _) = ⊥
 
 -- there are no more files than a program has
@@ -64,5 +64,5 @@ FilesGive before now files names (Ok read) = (map (λ file. file.name) read ≡ 
 FilesGive before now files names (Err (R.FileFault name)) = ComesTo files names name × Rose (before name) (now name)
 FilesGive before now files names (Err (R.TooLong name)) = ComesTo files names name
     × IfKnown files name (λ file. (now name ≡ before name) × ((bytes : List ℕ) × (file ≡ Some bytes) × (file_limit < length bytes)))
-FilesGive before now files names (Err R.Memory) = Unit {0}
+FilesGive before now files names (Err (R.Memory want)) = Unit {0}
 FilesGive before now files names (Err _) = ⊥

@@ -43,7 +43,7 @@ fn lexical(file: u16, fault: LexFault) -> Refusal
         LexFault::BadLiteral(at) => Refusal::BadLiteral(Place { file, at }),
         LexFault::Unclosed(at) => Refusal::Unclosed(Place { file, at }),
         LexFault::TooWide(at) => Refusal::TooWide(Place { file, at }),
-        LexFault::Memory => Refusal::Memory,
+        LexFault::Memory(want) => Refusal::Memory(want),
     }
 }
 
@@ -54,7 +54,7 @@ fn syntactic(fault: ParseFault) -> Refusal
     match fault {
         ParseFault::NoParse(place) => Refusal::NoParse(place),
         ParseFault::Unsupported(keyword, place) => Refusal::Unsupported(keyword, place),
-        ParseFault::Memory => Refusal::Memory,
+        ParseFault::Memory(want) => Refusal::Memory(want),
     }
 }
 
@@ -67,7 +67,7 @@ fn of_types(fault: CheckFault) -> Refusal
         CheckFault::IllTyped(rule, place) => Refusal::IllTyped(rule, place),
         CheckFault::Undeclared(name, place) => Refusal::Undeclared(name, place),
         CheckFault::Redeclared(name, place, first) => Refusal::Redeclared(name, place, first),
-        CheckFault::Memory => Refusal::Memory,
+        CheckFault::Memory(want) => Refusal::Memory(want),
     }
 }
 
@@ -91,7 +91,7 @@ fn of_gap(gap: Gap) -> Refusal
         Gap::Missing(name) => Refusal::Missing(name),
         Gap::NoMain => Refusal::NoMain,
         Gap::Limit(Passed { which, counted }) => Refusal::Limit(which, counted),
-        Gap::Memory => Refusal::Memory,
+        Gap::Memory(want) => Refusal::Memory(want),
     }
 }
 
@@ -104,7 +104,7 @@ fn refusal_for(fault: CompileFault) -> Refusal
         CompileFault::Syntax(fault) => syntactic(fault),
         CompileFault::Types(fault) => of_types(fault),
         CompileFault::Joining(gap) => of_gap(gap),
-        CompileFault::Memory => Refusal::Memory,
+        CompileFault::Memory(want) => Refusal::Memory(want),
     }
 }
 
@@ -118,10 +118,7 @@ fn text_if_any(
     ensures { IfOk result (λ text. IfSome place (λ p. IsPlaceText files.now p (or_empty text))) }
 {
     match place {
-        Some(place) => match place_text(alloc, files, place) {
-            Ok(text) => Ok(Some(text)),
-            Err(NoMemory) => Err(NoMemory),
-        },
+        Some(place) => Ok(Some(place_text(alloc, files, place)?)),
         None => Ok(None),
     }
 }

@@ -30,7 +30,7 @@ pub fn bytes_of<H: Host>(
         Ok(bytes) => Ok(bytes),
         Err(HostRead::Failed) => Err(Refusal::FileFault(Name::copy_of(alloc, name)?)),
         Err(HostRead::TooLong) => Err(Refusal::TooLong(Name::copy_of(alloc, name)?)),
-        Err(HostRead::Memory) => Err(Refusal::Memory),
+        Err(HostRead::Memory(want)) => Err(Refusal::Memory(want)),
     }
 }
 

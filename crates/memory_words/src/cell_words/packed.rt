@@ -2,7 +2,7 @@
 //!
 //! The tables have room for as many places as there are words, so that no store takes memory.
 
-ghost use Rattle.std.specs.Prelude.{◌≡◌, ◌<◌, ◌≤◌, [], false, length, OnOk};
+ghost use Rattle.std.specs.Prelude.{◌≡◌, ◌<◌, ◌≤◌, ◌^◌, [], false, length, OnOk};
 ghost use Rattle.memory_words.specs.CellWords.Tables.{HasRoom, IsCarried, IsPacked, IsPut, IsReleased, fours_in};
 ghost use Rattle.memory_words.specs.CellWords.Words.{four_at, four_of_pointer, is_tabled, whole, word_at};
 ghost use Rattle.memory_words.specs.declared.cell_words.word.Word.TheVariants as W;
@@ -55,6 +55,7 @@ impl Packed {
     pub(crate) fn reserve(&mut self, many: usize) -> Result<(), NoMemory>
         requires packed { IsPacked self.old }
         requires within { length self.old.words.items ≤ many }
+        requires small { many < 2 ^ 32 }
         ensures packed { IsPacked self.new }
         ensures words { self.new.words.items ≡ self.old.words.items }
         ensures pointers { self.new.pointers.values.items ≡ self.old.pointers.values.items }

@@ -1,6 +1,6 @@
 //! Dense tables of what does not fit a word.
 
-ghost use Rattle.std.specs.Prelude.{◌≡◌, ◌<◌, ◌≤◌, ◌+◌, ◌-◌, ◌++◌, [], ◌∷◌, ℕ, length, slice_index_or, OnOk};
+ghost use Rattle.std.specs.Prelude.{◌≡◌, ◌<◌, ◌≤◌, ◌+◌, ◌-◌, ◌^◌, ◌++◌, [], ◌∷◌, ℕ, length, slice_index_or, OnOk};
 ghost use Rattle.std.specs.List.{swap_remove};
 ghost use Rattle.memory_words.specs.CellWords.Tables.{HasRoom};
 
@@ -30,6 +30,7 @@ impl<T: Copy> Table<T> {
     /// Makes room for so many places in all.
     pub(crate) fn reserve(&mut self, many: usize) -> Result<(), NoMemory>
         requires within { length self.old.owners.items ≤ many }
+        requires small { many < 2 ^ 32 }
         requires even { length self.old.values.items ≡ length self.old.owners.items }
         ensures values { self.new.values.items ≡ self.old.values.items }
         ensures owners { self.new.owners.items ≡ self.old.owners.items }

@@ -59,10 +59,8 @@ impl Words {
         ensures { MatchResult result (λ _. self.new ≡ self.old ++ replicate count nothing) (λ refused. self.new ≡ self.old) }
     {
         let many = self.packed.words.len() + count;
-        match self.packed.reserve(many) {
-            Ok(()) => self.packed.words.add(count, EMPTY),
-            Err(refused) => Err(refused),
-        }
+        self.packed.reserve(many)?;
+        self.packed.words.add(count, EMPTY)
     }
 
     /// One cell.

@@ -1,4 +1,4 @@
-use Rattle.std.proofs.Common.{◌≡◌, ◌∙◌, ◌+◌, ◌++◌, ◌∷◌, [], ap, arith, length, map, rules, sym}
+use Rattle.std.proofs.Common.{◌≡◌, ◌∙◌, ◌++◌, ◌∷◌, [], ap, arith, length, map, sym}
 use Rattle.std.specs.Prelude.{slice_get}
 use Rattle.std.proofs.lemmas.List.{length-map, length_push, map-append}
 use Rattle.c_annotated.specs.FileViews.{object_of}
@@ -11,11 +11,10 @@ loop-o-preserved c =
     let l = c.loop-o in
     let marks = c.args.marks.now in
     let o = c.in-Some.o in
-    let k : c.in_ok-n.n ≡ l.n + 1 = search rules in
-    let n : l.n ≡ length (map object_of l.yielded) = l.invariant.0 ∙ sym (length-map l.yielded object_of) in
+    let n : c.len-n.result ≡ length (map object_of l.yielded) = c.len-n.ensures ∙ l.invariant.0 ∙ sym (length-map l.yielded object_of) in
     let s : object_of c.settled.result ≡ settled_by (is_marked (slice_get marks (length (map object_of l.yielded)))) (object_of o) =
     c.settled.ensures ∙ ap (λ m. settled_by m (object_of o)) (c.is_marked.ensures ∙ ap (λ n. is_marked (slice_get marks n)) n) in (
-      omega (arith, k, l.invariant.0, length_push l.yielded o),
+      omega (arith, ap length c.in_ok-add.ensures.added, length_push l.all c.settled.result, l.invariant.0, length_push l.yielded o),
       ap (map object_of) c.in_ok-add.ensures.added
           ∙ map-append object_of l.all (c.settled.result ∷ [])
           ∙ ap (λ x. map object_of l.all ++ x ∷ []) s

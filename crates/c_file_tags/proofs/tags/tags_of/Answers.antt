@@ -8,11 +8,12 @@ use Rattle.c_scopes.specs.SyntaxTags.Untagged.{untagged_by}
 use Rattle.c_file_tags.proofs.UntaggedStructs.Structs.{structs_of_tree}
 use Rattle.c_file_tags.proofs.tags.tags_of.Goals as goal
 
-pub of-requires-clause-order : goal.of-requires-clause-order
-of-requires-clause-order c =
-    subst AreAscending (sym c.in_ok-tables.ensures.ends)
-    ((marks_are_in_order c.tokens_have_places.ensures).ends c.args.file.now.bytes (items_of c.args.tree.now)
-    (untagged_by c.in_ok-untagged.untagged) c.requires.tree)
+pub of-requires : goal.of-requires
+of-requires c = record {
+  order = subst AreAscending (sym c.in_ok-tables.ensures.ends)
+      ((marks_are_in_order c.tokens_have_places.ensures).ends c.args.file.now.bytes (items_of c.args.tree.now)
+      (untagged_by c.in_ok-untagged.untagged) c.requires.tree);
+}
 
 pub returns : goal.returns
 returns c = subst (AreTagsOf c.args.file.now.name c.args.file.now.bytes (items_of c.args.tree.now)) (sym c.of.ensures) (record {

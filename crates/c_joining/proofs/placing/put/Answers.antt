@@ -1,13 +1,12 @@
-use Rattle.std.proofs.Common.{◌≡◌, ◌≤◌, ◌<◌, ◌++◌, ◌∷◌, [], ◌∙◌, length, true, false, rules}
-use Rattle.c_joining.proofs.Placed.{past, replaced, stays}
+use Rattle.std.proofs.Common.{◌≡◌, ◌≤◌, ◌<◌, ◌∙◌, length, true, false, rules}
+use Rattle.c_joining.proofs.Placed.{on_ok, past, replaced, stays}
 use Rattle.c_joining.proofs.placing.put.Goals as goal
 
 pub returns-then-n-len : goal.returns-then-n-len
 returns-then-n-len g c =
     let all = c.args.all.now.items in
     let h : length all ≤ c.args.number = search rules in
-    let e : c.push_reserved.new.self.items ≡ all ++ c.args.it ∷ [] = search rules in
-    e ∙ past c.args.replaces all c.args.number c.args.it h
+    on_ok c.push.result (λ e. e ∙ past c.args.replaces all c.args.number c.args.it h) c.push.ensures.pushed
 
 pub returns-then-replaces : goal.returns-then-replaces
 returns-then-replaces g c =

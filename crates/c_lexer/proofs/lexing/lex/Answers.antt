@@ -9,10 +9,10 @@ returns-in_err-list c =
     let is_err = err_from_is_err_and c.from_residual.result c.from_residual.ensures.1 in
     rw (is_err.1, is_err.2) (scanned_fault parts_are_exact tokens_are_exact c.args.bytes.now c.in_err-list.field-0.0 c.in_err-list.ensures)
 
-pub returns-in-Ok : goal.returns-in-Ok
-returns-in-Ok c = (
+pub returns : goal.returns
+returns c = (
   refl,
   search rules,
-  rw c.of-in-Ok.ensures
+  rw c.of-2.ensures
       (scanned_lexes parts_are_exact tokens_are_exact c.args.bytes.now c.in_ok-list.list.items c.in_ok-list.ensures),
 )

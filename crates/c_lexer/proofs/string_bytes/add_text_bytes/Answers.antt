@@ -13,6 +13,6 @@ overflow_cast-value c =
 
 pub loop-rest-preserved : goal.loop-rest-preserved
 loop-rest-preserved c =
-    let added : c.push.new.self.items ≡ c.loop-rest.bytes.items ++ c.in-Some.value ∷ [] = search rules in
+    let added : c.push.new.items.items ≡ c.loop-rest.bytes.items ++ c.in-Some.value ∷ [] = search rules in
     rw (added, c.split_at.ensures.back) (reads_more c.loop-rest.bytes.items c.loop-rest.rest.now _ c.in-Some.value c.in-Some.count
     (sym c.item_at.ensures.is ∙ c.in-Some.is) c.loop-rest.invariant)

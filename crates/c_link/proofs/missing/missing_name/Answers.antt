@@ -1,4 +1,4 @@
-use Rattle.std.proofs.Common.{◌≡◌, ◌∙◌, ap, rules}
+use Rattle.std.proofs.Common.{◌≡◌, rules}
 use Rattle.std.specs.Option.{option_map}
 use Rattle.c_typed.specs.Programs.{program_data}
 use Rattle.c_link.specs.Clashes.{trouble_of}

@@ -1,6 +1,6 @@
 use Rattle.std.proofs.Common.{◌≡◌, true, false, map, sym, ap, subst, ◌∙◌}
 use Rattle.std.specs.Prelude.{if◌then◌else◌}
-use Rattle.lay_base.specs.KeywordScan.{begins_with_underscore, left_out_of, number_from}
+use Rattle.lay_base.specs.KeywordScan.{begins_with_underscore, number_from}
 use Rattle.lay_base.specs.Keywords.{left_out, left_out_plain}
 use Rattle.lay_base.proofs.keywords.left_out_of.Goals as goal
 

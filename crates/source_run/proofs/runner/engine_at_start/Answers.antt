@@ -9,6 +9,7 @@ use Rattle.source_run.proofs.runner.engine_at_start.Goals as goal
 use Rattle.source_start.specs.Zeros.{no_counts}
 use Rattle.source_state.specs.RoomView.{core_of, empty_core}
 use Rattle.source_state.specs.Steps.Counting.{Counting}
+use Rattle.tac_engine.specs.View.{state_of}
 
 pub returns : goal.returns
 returns c =
@@ -17,4 +18,4 @@ returns c =
     (c.new-room.ensures ∙ ap (λ (counts : Counting). empty_core c.args.turns counts) (c.in_ok-none.ensures ∙ ap (λ (t : Typed). no_counts (program_data t)) c.typed.ensures)) in
     let core : core_of c.start.new.room ≡ first_core p c.args.turns
     = subst (λ (r : Result (Unit {0}) NoMemory). OnOk r (core_of c.start.new.room ≡ first_core p c.args.turns)) c.in_ok-start.was filled in
-    at_start c.args.types.now c.args.code.now c.args.turns (core_of c.start.new.room) c.new.result core c.requires c.new.ensures
+    at_start c.args.types.now c.args.code.now c.args.turns (core_of c.start.new.room) c.args.routine.now (state_of c.new.result) core c.requires c.new.ensures

@@ -2,7 +2,7 @@ use Rattle.std.proofs.Common.{ap, arith, refl, sym, ◌∙◌}
 use Rattle.c_typed.specs.Programs.{program_data}
 use Rattle.source_run.proofs.Beginning.{far_begun}
 use Rattle.source_run.proofs.Reaching.{far_where, goes_further}
-use Rattle.source_run.proofs.Stopping.{is_over, fails_reading, fails_writing, lacks_memory, steps_on}
+use Rattle.source_run.proofs.Stopping.{is_over, fails_reading, fails_writing, lacks_memory, none_at_all, steps_on}
 use Rattle.source_run.proofs.runner.run_engine.Goals as goal
 use Rattle.source_state.specs.declared.ends.Moved.{Moved}
 use Rattle.source_state.specs.declared.ends.Moved.TheVariants.{Goes, Over}
@@ -13,6 +13,9 @@ returns-in-Ok-Over g c =
     is_over (program_data c.args.types.now) c.args.turns _ _ _ (state_of c.start.new.self) c.finish.new.kept c.in-Ok-Over.end
     (far_begun c.args.types.now c.args.turns (omega arith) c.runs_are_same.ensures (state_of c.args.engine.now) c.requires.start _ (Over c.in-Ok-Over.end)
     (state_of c.start.new.self) (ap (λ (m : Moved). (m, state_of c.start.new.self)) (sym c.in-Ok-Over.field-0-is) ∙ c.in-Ok-Over.ensures)) refl c.finish.result c.finish.ensures
+
+pub returns-in-Err : goal.returns-in-Err
+returns-in-Err g c = none_at_all (program_data c.args.types.now) c.args.turns _ c.args.kept.now
 
 pub loop-init : goal.loop-init
 loop-init g c =

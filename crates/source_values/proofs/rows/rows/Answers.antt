@@ -16,7 +16,7 @@ loop-index-preserved c =
     let here : c.in_ok-row.row ≡ row_of (program_data c.args.typed.now) c.loop-index.index =
     row_here c.args.typed.now c.loop-index.index c.t-item.result c.in_ok-row.row there c.in_ok-row.ensures.row in
     record {
-      rows = one_more (program_data c.args.typed.now) c.loop-index.rows.items c.push.new.self.items c.loop-index.index c.in_ok-row.row here
+      rows = one_more (program_data c.args.typed.now) c.loop-index.rows.items c.push.new.items.items c.loop-index.index c.in_ok-row.row here
           c.loop-index.invariant.rows (search rules);
       small = below_more _ _ c.loop-index.invariant.small (rw (← here) c.in_ok-row.ensures.small);
     }

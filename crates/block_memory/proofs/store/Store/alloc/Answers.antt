@@ -1,4 +1,4 @@
-use Rattle.std.proofs.Common.{◌+◌, ◌≡◌, ◌*◌, length, replicate, true, arith, refl, sym, ap, ◌∙◌}
+use Rattle.std.proofs.Common.{◌+◌, ◌≡◌, ◌*◌, length, replicate, true, arith, refl, rules, sym, ap, ◌∙◌}
 use Rattle.std.proofs.lemmas.List.{length-map, length-replicate}
 use Rattle.memory_words.specs.declared.cell_words.cell.Cell.TheVariants.{Empty}
 use Rattle.block_memory.specs.declared.slot.Slot.{Slot}
@@ -10,8 +10,8 @@ use Rattle.block_memory.proofs.Overs.{length_over}
 use Rattle.block_memory.proofs.Sound.{sound_changed}
 use Rattle.block_memory.proofs.store.Store.alloc.Goals as goal
 
-pub invariant_of-self : goal.invariant_of-self
-invariant_of-self c =
+pub invariant_of-self-2 : goal.invariant_of-self-2
+invariant_of-self-2 c =
     let s = c.args.self.now in
     let m = c.make_room.new.self in
     let room = c.in_ok-make_room.ensures.enough in
@@ -23,32 +23,34 @@ invariant_of-self c =
     ap length c.fill.ensures ∙ length_over m.arena (replicate size Empty) (4 * m.free) (omega (arith, room.0, n, c.words_for-count.ensures.is)) in
     record {
       sound = sound_begun m.slots c.push.new.self m.arena c.fill.new.self m.free c.words_for-count.result slot m.sound
-          (omega (arith, number, c.if-number.false, c.make_room.ensures.many)) refl c.words_for-count.ensures.is room.1 (omega (arith, room.0, long)) (omega (arith, long)) c.in-Ok.ensures;
-      settles = settled_more m.slots c.push.new.self m.free (m.free + c.words_for-count.result) m.settled m.settled_words slot m.settles refl (omega arith) c.in-Ok.ensures;
+          (omega (arith, number, c.if-number.false, c.make_room.ensures.many)) refl c.words_for-count.ensures.is room.1 (omega (arith, room.0, long)) (omega (arith, long)) c.in_ok-push.ensures;
+      settles = settled_more m.slots c.push.new.self m.free (m.free + c.words_for-count.result) m.settled m.settled_words slot m.settles refl (omega arith) c.in_ok-push.ensures;
     }
 
-pub invariant_of-self-in-Err : goal.invariant_of-self-in-Err
-invariant_of-self-in-Err c =
+pub invariant_of-self : goal.invariant_of-self
+invariant_of-self c =
     let m = c.make_room.new.self in
     record {
-      sound = rw c.in-Err.ensures (sound_changed m.slots m.arena c.fill.new.self m.free (4 * m.free) (replicate c.args.size Empty) m.sound c.fill.ensures);
-      settles = rw c.in-Err.ensures m.settles;
+      sound = rw c.in_err-push.ensures (sound_changed m.slots m.arena c.fill.new.self m.free (4 * m.free) (replicate c.args.size Empty) m.sound c.fill.ensures);
+      settles = rw c.in_err-push.ensures m.settles;
     }
 
-pub returns-in-Ok : goal.returns-in-Ok
-returns-in-Ok c =
+pub returns-clause-gives : goal.returns-clause-gives
+returns-clause-gives c =
     let s = c.args.self.now in
     let m = c.make_room.new.self in
     let room = c.in_ok-make_room.ensures.enough in (
       c.len-number.ensures ∙ sym (length-map s.slots (block_in s.arena)),
-      begun m.slots c.push.new.self m.arena c.fill.new.self m.free c.args.size c.args.kind m.sound (omega (arith, room.0, c.words_for-count.ensures.is)) c.fill.ensures c.in-Ok.ensures
+      begun m.slots c.push.new.self m.arena c.fill.new.self m.free c.args.size c.args.kind m.sound (omega (arith, room.0, c.words_for-count.ensures.is)) c.fill.ensures c.in_ok-push.ensures
           ∙ ap (λ m. with_block m c.args.size c.args.kind) c.make_room.ensures.memory,
     )
 
-pub returns-in-Err : goal.returns-in-Err
-returns-in-Err c =
+pub returns-in_err-push-clause-gives : goal.returns-in_err-push-clause-gives
+returns-in_err-push-clause-gives c =
     let m = c.make_room.new.self in
     let room = c.in_ok-make_room.ensures.enough in
-    ap (λ s. memory_in s c.fill.new.self) c.in-Err.ensures
+    let same : memory_in c.push.new.self c.fill.new.self ≡ memory_in c.args.self.now.slots c.args.self.now.arena
+    = ap (λ s. memory_in s c.fill.new.self) c.in_err-push.ensures
     ∙ begun_refused m.slots m.arena c.fill.new.self m.free c.args.size m.sound (omega (arith, room.0, c.words_for-count.ensures.is)) c.fill.ensures
-    ∙ c.make_room.ensures.memory
+    ∙ c.make_room.ensures.memory in
+    search (rules, same)

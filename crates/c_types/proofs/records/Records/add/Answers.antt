@@ -27,7 +27,7 @@ invariant_of-self-2 c =
     rw (c.deref.ensures.value, c.as_slice.ensures) at c.in-Ok.ensures.0 in
     let small : (layout c.self.inside.layouts.items (field_types (record_of c.args.r))).size ≤ greatest_size =
     rw (c.deref.ensures.value, c.as_slice.ensures) at c.in-Ok.ensures.1 in
-    rw (c.push_reserved.ensures.items, c.push_reserved-2.ensures.items, c.reserve.ensures.items, c.reserve-else-is_err.ensures.items)
+    rw (c.push_reserved.ensures.items, c.push_reserved-2.ensures.items, c.reserve.ensures.items, c.reserve-2.ensures.items)
     (laid-push c.self.inside.records.items c.self.inside.layouts.items c.args.r c.in-Ok.layout c.self.invariant room
     (rw c.self.view_is c.requires.objects) as_said small)
 

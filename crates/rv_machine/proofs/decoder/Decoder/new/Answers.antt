@@ -3,5 +3,5 @@ use Rattle.rv_machine.proofs.decoder.Decoder.new.Goals as goal
 
 pub returns : goal.returns
 returns c =
-    none_stay c.in-Ok.entries.items c.nothing_at.result c.nothing_at-2.result
-    (c.in-Ok.ensures.items_if_clones_equal (λ y same. same)) c.nothing_at.ensures c.nothing_at-2.ensures
+    none_stay c.in_ok-entries.entries.items c.nothing_at.result c.nothing_at-2.result
+    (c.in_ok-entries.ensures.items (λ y same. same)) c.nothing_at.ensures c.nothing_at-2.ensures

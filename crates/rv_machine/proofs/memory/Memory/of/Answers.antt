@@ -1,4 +1,4 @@
-use Rattle.std.proofs.Common.{◌≡◌, ◌∙◌, ap, length}
+use Rattle.std.proofs.Common.{◌≡◌, ◌∙◌, ap, length, arith}
 use Rattle.rv_isa.specs.Memory.{readable, writable}
 use Rattle.rv_machine.specs.Making.{size_of}
 use Rattle.rv_machine.specs.Rows.{segments_of}
@@ -7,6 +7,12 @@ use Rattle.rv_machine.proofs.memory.Memory.of.Goals as goal
 
 pub bytes_for-requires : goal.bytes_for-requires
 bytes_for-requires c = fits_each c.args.segments.now c.requires
+
+pub rows_for-requires : goal.rows_for-requires
+rows_for-requires c =
+    let segments = c.args.segments.now in
+    let number : length c.in_ok-bytes.bytes.items ≡ size_of segments = ap length c.in_ok-bytes.ensures ∙ bytes_length segments c.requires in
+    omega arith
 
 pub invariant_of-result : goal.invariant_of-result
 invariant_of-result c =
