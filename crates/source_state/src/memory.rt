@@ -189,6 +189,7 @@ impl Room {
     }
 
     /// An allocation of so many bytes, all zero or with nothing that was stored.
+    #[tactic(auto, using(crate::proofs::Within::zeroed_within, crate::proofs::Within::new_size))]
     pub fn allocate(
         &mut self,
         alloc: Global,
@@ -200,7 +201,7 @@ impl Room {
         match self.make(alloc, size, BlockKind::Heap)? {
             Ok(block) => {
                 if zero {
-                    self.zero(block, size as u32)?;
+                    self.store.set_zero(block, size as u32);
                 }
                 Ok(Ok(Value::Pointer(Ptr::Block(block, 0))))
             }

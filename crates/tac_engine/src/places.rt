@@ -1,19 +1,24 @@
 //! Steps that lead to places in memory, load and store there, and begin and end the blocks of locals.
 
 ghost use Rattle.std.specs.Prelude.{◌≡◌, ◌≤◌, [], IfOk, get_or, true};
+ghost use Rattle.block_memory.specs.View.{memory_of};
+ghost use Rattle.block_memory.specs.declared.run_worlds.value.Value.TheVariants.{Pointer};
+ghost use Rattle.c_meaning.specs.Expressions.{field_in};
+ghost use Rattle.source_values.specs.Ways.{way_to};
 ghost use Rattle.tac_ir.specs.declared.step.Step.TheVariants as S;
-ghost use Rattle.tac_engine.specs.States.{element, part, through};
+ghost use Rattle.tac_engine.specs.States.{finding, putting};
 ghost use Rattle.tac_engine.specs.Steps.{enacted};
 ghost use Rattle.tac_engine.specs.View.{state_of};
 ghost use Rattle.tac_engine.specs.Ways.{for_blocks, for_places};
 
 use crate::engine::{Comes, Engine};
+use crate::far::{far_bytes, far_field, far_part};
 use crate::temporaries::{pointer, read, read_both, word};
 use crate::values::GREATEST_SIZE;
-use block_memory::{Access, Ptr, Value};
+use block_memory::{Access, Ptr, Store, Value};
 use c_meaning::{Slot, Spot};
 use c_types::IntKind;
-use lay_base::{NoMemory, Place, UndefinedKind};
+use lay_base::{Place, UndefinedKind};
 use source_state::{Moved, undefined};
 use source_values::{bytes_of, field_in, is_subscript, number_of, part_in, pointer_of, way_to};
 use std::alloc::Global;
@@ -29,13 +34,32 @@ fn text_of(routine: &Routine, number: u32) -> &[u8]
     }
 }
 
+/// The way to a field of an element through a pointer.
+fn element_field_in(
+    store: &Store,
+    p: Ptr,
+    kind: IntKind,
+    word: u32,
+    size: u32,
+    by: u32,
+) -> Result<Ptr, UndefinedKind>
+    ensures { result ≡ field_in (memory_of store.now) p (way_to kind word size by) }
+{
+    if size <= GREATEST_SIZE {
+        field_in(store, p, way_to(kind, word, size, by))
+    } else {
+        far_field(store, p, far_bytes(kind, word, size), by)
+    }
+}
+
 impl<'a> Engine<'a> {
     // ---- the ways to fields and elements
 
-    fn through(&mut self, t: u32, place: Place, v: Value, by: i64) -> Comes
-        ensures { IfOk result (λ m. (m, state_of self.new) ≡ through t place v by (state_of self.old)) }
+    /// A temporary takes a pointer that is found.
+    fn led(&mut self, t: u32, place: Place, q: Result<Ptr, UndefinedKind>) -> Comes
+        ensures { IfOk result (λ m. (m, state_of self.new) ≡ finding place q (state_of self.old) (λ q. putting t (Pointer q) (state_of self.old))) }
     {
-        match field_in(&self.room.store, pointer_of(v), by) {
+        match q {
             Ok(q) => self.put(t, Value::Pointer(q)),
             Err(kind) => Ok(undefined(kind, place)),
         }
@@ -45,7 +69,10 @@ impl<'a> Engine<'a> {
         ensures { IfOk result (λ m. (m, state_of self.new) ≡ enacted (S.Field t place by a) (state_of self.old)) }
     {
         match read(&self.room, a) {
-            Ok(v) => self.through(t, place, v, i64::from(by)),
+            Ok(v) => {
+                let q = field_in(&self.room.store, pointer_of(v), i64::from(by));
+                self.led(t, place, q)
+            }
             Err(end) => Ok(Moved::Over(end)),
         }
     }
@@ -62,23 +89,13 @@ impl<'a> Engine<'a> {
     ) -> Comes
         ensures { IfOk result (λ m. (m, state_of self.new) ≡ enacted (S.ElementField t place size kind by a b) (state_of self.old)) }
     {
-        if size > GREATEST_SIZE {
-            return Err(NoMemory::unearned());
-        }
         match read_both(&self.room, a, b) {
-            Ok((v, Value::Word(w))) => self.through(t, place, v, way_to(kind, w, size, by)),
+            Ok((v, Value::Word(w))) => {
+                let q = element_field_in(&self.room.store, pointer_of(v), kind, w, size, by);
+                self.led(t, place, q)
+            }
             Ok((_, Value::Pointer(_))) => Ok(undefined(UndefinedKind::Pointer, place)),
             Err(end) => Ok(Moved::Over(end)),
-        }
-    }
-
-    /// So many bytes behind a place.
-    fn part_at(&mut self, t: u32, place: Place, by: i64, v: Value) -> Comes
-        ensures { IfOk result (λ m. (m, state_of self.new) ≡ part t place by v (state_of self.old)) }
-    {
-        match part_in(&self.room.store, pointer_of(v), by) {
-            Ok(q) => self.put(t, Value::Pointer(q)),
-            Err(kind) => Ok(undefined(kind, place)),
         }
     }
 
@@ -86,7 +103,10 @@ impl<'a> Engine<'a> {
         ensures { IfOk result (λ m. (m, state_of self.new) ≡ enacted (S.Part t place by a) (state_of self.old)) }
     {
         match read(&self.room, a) {
-            Ok(v) => self.part_at(t, place, i64::from(by), v),
+            Ok(v) => {
+                let q = part_in(&self.room.store, pointer_of(v), i64::from(by));
+                self.led(t, place, q)
+            }
             Err(end) => Ok(Moved::Over(end)),
         }
     }
@@ -105,13 +125,12 @@ impl<'a> Engine<'a> {
     ) -> Comes
         ensures { IfOk result (λ m. (m, state_of self.new) ≡ enacted (S.Element t place length size addressed kind a b) (state_of self.old)) }
     {
-        if size > GREATEST_SIZE {
-            return Err(NoMemory::unearned());
-        }
         match read_both(&self.room, a, b) {
             Ok((v, Value::Word(word))) => {
                 if is_subscript(length, addressed, number_of(kind, word)) {
-                    self.part_at(t, place, bytes_of(kind, word, size), v)
+                    let bytes = far_bytes(kind, word, size);
+                    let q = far_part(&self.room.store, pointer_of(v), bytes);
+                    self.led(t, place, q)
                 } else {
                     Ok(undefined(UndefinedKind::Subscript, place))
                 }

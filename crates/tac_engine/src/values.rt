@@ -1,9 +1,8 @@
 //! Steps that compute values.
 
 ghost use Rattle.std.specs.Prelude.{◌≡◌, ◌≤◌, IfOk, true};
-ghost use Rattle.block_memory.specs.RunWorlds.Operators.{common_kind, pointer_op, updated};
+ghost use Rattle.block_memory.specs.RunWorlds.Operators.{common_kind, moved_from, pointer_op, updated};
 ghost use Rattle.block_memory.specs.View.{memory_of};
-ghost use Rattle.c_types.specs.Limits.{greatest_size};
 ghost use Rattle.c_types.specs.Types.{integer};
 ghost use Rattle.tac_ir.specs.Running.{as_number, type_of_sort};
 ghost use Rattle.tac_ir.specs.declared.step.Step.TheVariants as S;
@@ -13,12 +12,13 @@ ghost use Rattle.tac_engine.specs.View.{state_of};
 ghost use Rattle.tac_engine.specs.Ways.{for_one, for_two};
 
 use crate::engine::{Comes, Engine};
+use crate::far::far_moved;
 use crate::temporaries::{put_slot, read, read_both};
 use block_memory::{Store, Value};
 use c_meaning::Slot;
 use c_typed::{BinaryOp, PointerOp, is_shift, promoted_kind};
 use c_types::IntKind;
-use lay_base::{NoMemory, Place, UndefinedKind};
+use lay_base::{Place, UndefinedKind};
 use source_state::{Moved, undefined};
 use source_values::{
     binary, compared, convert, distance, flag, is_true, moved, moved_from, null_or_pointer, unary,
@@ -50,6 +50,27 @@ fn pointer_op(op: BinaryOp) -> PointerOp
     }
 }
 
+/// A pointer and a number of elements of a size (C99 6.5.6), where the pointer is the left operand or the right one.
+fn shifted(
+    store: &Store,
+    left: bool,
+    op: PointerOp,
+    size: u32,
+    kind: IntKind,
+    v: Value,
+    w: Value,
+) -> Result<Value, UndefinedKind>
+    ensures { result ≡ moved_from left (memory_of store.now) op size kind v w }
+{
+    if size <= GREATEST_SIZE {
+        moved_from(store, left, op, size, kind, v, w)
+    } else if left {
+        far_moved(store, op, size, kind, v, w)
+    } else {
+        far_moved(store, op, size, kind, w, v)
+    }
+}
+
 /// What a compound assignment stores (C99 6.5.16.2).
 fn updated(
     store: &Store,
@@ -60,7 +81,6 @@ fn updated(
     right: IntKind,
     v: Value,
 ) -> Result<Value, UndefinedKind>
-    requires { size ≤ greatest_size }
     ensures { result ≡ updated (memory_of store.now) op size (type_of_sort sort) old (integer right) v }
 {
     match sort {
@@ -74,7 +94,13 @@ fn updated(
                 Err(kind) => Err(kind),
             }
         }
-        Sort::Pointer => moved(store, pointer_op(op), size, right, old, v),
+        Sort::Pointer => {
+            if size <= GREATEST_SIZE {
+                moved(store, pointer_op(op), size, right, old, v)
+            } else {
+                far_moved(store, pointer_op(op), size, right, old, v)
+            }
+        }
     }
 }
 
@@ -201,12 +227,9 @@ impl<'a> Engine<'a> {
     ) -> Comes
         ensures { IfOk result (λ m. (m, state_of self.new) ≡ enacted (S.Move t place op size left kind a b) (state_of self.old)) }
     {
-        if size > GREATEST_SIZE {
-            return Err(NoMemory::unearned());
-        }
         match read_both(&self.room, a, b) {
             Ok((v, w)) => {
-                let value = moved_from(&self.room.store, left, op, size, kind, v, w);
+                let value = shifted(&self.room.store, left, op, size, kind, v, w);
                 self.found(t, place, value)
             }
             Err(end) => Ok(Moved::Over(end)),
@@ -226,9 +249,6 @@ impl<'a> Engine<'a> {
     ) -> Comes
         ensures { IfOk result (λ m. (m, state_of self.new) ≡ enacted (S.Update t place op size sort right a b) (state_of self.old)) }
     {
-        if size > GREATEST_SIZE {
-            return Err(NoMemory::unearned());
-        }
         // The operand on the right comes first.
         match read_both(&self.room, b, a) {
             Ok((w, v)) => {
