@@ -3,4 +3,5 @@ pub mod LastBlock
 pub mod NoCounts
 pub mod Filled
 pub mod Walks
+pub mod FewLoops
 pub mod Telling

@@ -1,8 +1,9 @@
 //! The counts of a run in the order of a profile.
 
-ghost use Rattle.std.specs.Prelude.{◌≡◌, ◌<◌, ◌^◌, IfOk, length, map};
+ghost use Rattle.std.specs.Prelude.{◌≡◌, ◌<◌, ◌^◌, All, IfOk, length, map};
 ghost use Rattle.c_typed.specs.RunCounts.Counting.{count_at, counts_by, name_at, numbers_below};
-ghost use Rattle.c_typed.specs.Programs.{program_data};
+ghost use Rattle.c_typed.specs.RunCounts.Loops.{loops_at, loops_of};
+ghost use Rattle.c_typed.specs.Programs.{data_of, program_data};
 ghost use Rattle.source_state.specs.CountsView.{counting_of};
 ghost use Rattle.source_start.specs.Counted.{begin_in, entry_in};
 
@@ -37,12 +38,12 @@ fn begins(alloc: Global, counters: &Counters, f: u32, count: u32) -> Result<List
 
 /// The counts of the function of that number.
 fn count_at(alloc: Global, p: &Typed, counters: &Counters, f: u32) -> Result<FunCount, NoMemory>
+    requires { loops_at (program_data p.now) f < 2 ^ 32 }
     ensures { IfOk result (λ count. count ≡
         count_at (entry_in (counting_of counters.now)) (begin_in (counting_of counters.now)) (program_data p.now) f) }
 {
     let name = name_at(alloc, p, f)?;
-    let number = loops_at(p, f)?;
-    let loops = begins(alloc, counters, f, number)?;
+    let loops = begins(alloc, counters, f, loops_at(p, f))?;
     Ok(FunCount {
         name,
         entries: entry(counters, f),
@@ -50,10 +51,11 @@ fn count_at(alloc: Global, p: &Typed, counters: &Counters, f: u32) -> Result<Fun
     })
 }
 
-/// The counts of each function that the program defines, in the order of a profile. `NoMemory` comes for want of memory, and where a
-/// function has 2^32 - 1 loops or more.
+/// The counts of each function that the program defines, in the order of a profile.
+#[tactic(auto, using(crate::proofs::FewLoops::few_loops))]
 pub fn counts(alloc: Global, p: &Typed, counters: &Counters) -> Result<Counts, NoMemory>
-    requires { length p.now.functions < 2 ^ 32 }
+    requires functions { length p.now.functions < 2 ^ 32 }
+    requires loops { All (λ f. loops_of (data_of f) < 2 ^ 32) p.now.functions }
     ensures { IfOk result (λ counts. counts ≡
         counts_by (entry_in (counting_of counters.now)) (begin_in (counting_of counters.now)) (program_data p.now)) }
 {

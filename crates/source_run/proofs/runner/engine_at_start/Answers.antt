@@ -18,4 +18,4 @@ returns c =
     (c.new-room.ensures ∙ ap (λ (counts : Counting). empty_core c.args.turns counts) (c.in_ok-none.ensures ∙ ap (λ (t : Typed). no_counts (program_data t)) c.typed.ensures)) in
     let core : core_of c.start.new.room ≡ first_core p c.args.turns
     = subst (λ (r : Result (Unit {0}) NoMemory). OnOk r (core_of c.start.new.room ≡ first_core p c.args.turns)) c.in_ok-start.was filled in
-    at_start c.args.types.now c.args.code.now c.args.turns (core_of c.start.new.room) c.args.routine.now (state_of c.new.result) core c.requires c.new.ensures
+    at_start c.args.types.now c.args.code.now c.args.turns (core_of c.start.new.room) c.args.routine.now (state_of c.new.result) core c.requires.code c.new.ensures
