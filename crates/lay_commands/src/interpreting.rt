@@ -13,7 +13,10 @@ ghost use Rattle.lay_commands.specs.Interpreting.{InterpGives, InterpretGives, T
 
 use crate::words::InterpRequest;
 use lay_base::{File, Host, Place, Sink, Source, UndefinedKind};
-use lay_compile::{PlaceTexts, SourceProgram, program_in, programs_have_few_functions, texts_of};
+use lay_compile::{
+    PlaceTexts, SourceProgram, program_in, programs_have_few_functions, programs_have_few_loops,
+    texts_of,
+};
 use refusals::Refusal;
 use source_run::{RunEnd, Runner};
 use std::alloc::Global;
@@ -80,6 +83,7 @@ fn interpret<I: Source, O: Sink>(
     ensures texts { IfErr result (λ refusal. AreTexts source.now.files refusal texts.new) }
 {
     programs_have_few_functions();
+    programs_have_few_loops();
     let mut runner = Runner::new(alloc, &source.program)?;
     let end = runner.run(alloc, input, out, turns);
     answer_for(alloc, source.files.as_slice(), end, texts)
