@@ -1,13 +1,13 @@
 //! The runner of a program.
 
-ghost use Rattle.std.specs.Prelude.{◌≡◌, ◌<◌, ◌^◌, All, IfOk, length};
-ghost use Rattle.c_typed.specs.RunCounts.Loops.{loops_of};
-ghost use Rattle.c_typed.specs.Programs.{data_of, program_data};
+ghost use Rattle.std.specs.Prelude.{◌≡◌, ◌<◌, ◌^◌, IfOk, length};
+ghost use Rattle.c_typed.specs.Programs.{program_data};
 ghost use Rattle.lower_tac.specs.Statements.{lowered};
 ghost use Rattle.source_run.specs.Fresh.{no_counts as counts_of_none};
 ghost use Rattle.source_run.specs.RunGives.{RunGives};
 ghost use Rattle.source_run.specs.Starting.{HasFinished, IsAtStart, answer_of};
 ghost use Rattle.source_run.specs.Streams.{streams};
+ghost use Rattle.source_start.specs.Fits.{StartsFit};
 ghost use Rattle.tac_engine.specs.View.{state_of};
 ghost use Rattle.tac_ir.specs.Code.{code_of};
 
@@ -38,7 +38,7 @@ fn answer(end: Final, turns: u64) -> RunEnd
 /// The counts of a program of which nothing was done.
 fn counts_at_start(alloc: Global, p: &Typed) -> Result<Counts, NoMemory>
     requires functions { length p.now.functions < 2 ^ 32 }
-    requires loops { All (λ f. loops_of (data_of f) < 2 ^ 32) p.now.functions }
+    requires starts { StartsFit (program_data p.now) }
     ensures { IfOk result (λ counts. counts ≡ counts_of_none (program_data p.now)) }
 {
     match no_counts(alloc, p) {
@@ -68,7 +68,7 @@ fn engine_at_start<'a>(
     turns: u64,
 ) -> Result<Engine<'a>, NoMemory>
     requires code { code_of code.now ≡ lowered (program_data types.now) }
-    requires loops { All (λ f. loops_of (data_of f) < 2 ^ 32) types.now.functions }
+    requires starts { StartsFit (program_data types.now) }
     ensures { IfOk result (λ engine. IsAtStart types.entry.now turns (state_of engine)) }
 {
     let none = no_counts(alloc, types.typed())?;
@@ -87,7 +87,7 @@ fn finish(
     turns: u64,
 ) -> RunEnd
     requires functions { length types.now.functions < 2 ^ 32 }
-    requires loops { All (λ f. loops_of (data_of f) < 2 ^ 32) types.now.functions }
+    requires starts { StartsFit (program_data types.now) }
     ensures { HasFinished (program_data types.now) (state_of engine.now).core.counts kept.new end turns result }
 {
     match counts(alloc, types.typed(), &engine.room.counts) {
@@ -111,7 +111,7 @@ fn run_engine<I: Source, O: Sink>(
 ) -> RunEnd
     requires start { IsAtStart types.now turns (state_of engine.old) }
     requires functions { length types.now.functions < 2 ^ 32 }
-    requires loops { All (λ f. loops_of (data_of f) < 2 ^ 32) types.now.functions }
+    requires starts { StartsFit (program_data types.now) }
     ensures { RunGives (program_data types.now) turns
         (streams (I.left input.old) (I.faults input.old) (O.written out.old) (O.faults out.old))
         (streams (I.left input.new) (I.faults input.new) (O.written out.new) (O.faults out.new)) kept.new result }
@@ -150,7 +150,7 @@ fn run_code<'a, I: Source, O: Sink>(
 ) -> RunEnd
     requires code { code_of code.now ≡ lowered (program_data types.now) }
     requires functions { length types.now.functions < 2 ^ 32 }
-    requires loops { All (λ f. loops_of (data_of f) < 2 ^ 32) types.now.functions }
+    requires starts { StartsFit (program_data types.now) }
     ensures { RunGives (program_data types.now) turns
         (streams (I.left input.old) (I.faults input.old) (O.written out.old) (O.faults out.old))
         (streams (I.left input.new) (I.faults input.new) (O.written out.new) (O.faults out.new)) kept.new result }
@@ -171,18 +171,18 @@ pub struct Runner<'a> {
 }
 
 impl<'a> Runner<'a> {
-    ghost use Rattle.std.specs.Prelude.{◌≡◌, ◌<◌, ◌≤◌, ◌^◌, All, IfOk, IsSome, Some, length};
+    ghost use Rattle.std.specs.Prelude.{◌≡◌, ◌<◌, ◌≤◌, ◌^◌, IfOk, IsSome, Some, length};
     ghost use Rattle.c_typed.specs.declared.program.Typed.{Typed};
-    ghost use Rattle.c_typed.specs.RunCounts.Loops.{loops_of};
-    ghost use Rattle.c_typed.specs.Programs.{data_of, program_data};
+    ghost use Rattle.c_typed.specs.Programs.{program_data};
     ghost use Rattle.source_run.specs.Fresh.{IsFresh, no_counts};
     ghost use Rattle.source_run.specs.RunGives.{RunGives};
     ghost use Rattle.source_run.specs.Streams.{streams};
+    ghost use Rattle.source_start.specs.Fits.{StartsFit};
 
     /// A runner of the program, with counts that are all 0.
     pub fn new(alloc: Global, p: &'a Typed) -> Result<Runner<'a>, NoMemory>
         requires functions { length p.now.functions < 2 ^ 32 }
-        requires loops { All (λ f. loops_of (data_of f) < 2 ^ 32) p.now.functions }
+        requires starts { StartsFit (program_data p.now) }
         ensures fresh { IfOk result (λ runner. IsFresh p.entry.now runner) }
         ensures zero { IfOk result (λ runner. runner.counts ≡ no_counts (program_data p.entry.now)) }
     {
@@ -206,7 +206,7 @@ impl<'a> Runner<'a> {
         turns: u64,
     ) -> RunEnd
         requires functions { length self.old.types.functions < 2 ^ 32 }
-        requires loops { All (λ f. loops_of (data_of f) < 2 ^ 32) self.old.types.functions }
+        requires starts { StartsFit (program_data self.old.types) }
         ensures { RunGives (program_data self.old.types) turns
             (streams (I.left input.old) (I.faults input.old) (O.written out.old) (O.faults out.old))
             (streams (I.left input.new) (I.faults input.new) (O.written out.new) (O.faults out.new)) self.new.counts result }
@@ -236,7 +236,7 @@ impl<'a> Runner<'a> {
     ) -> RunEnd
         requires turns { turns ≤ 10 ^ 18 }
         requires functions { length self.old.types.functions < 2 ^ 32 }
-        requires loops { All (λ f. loops_of (data_of f) < 2 ^ 32) self.old.types.functions }
+        requires starts { StartsFit (program_data self.old.types) }
         ensures ended { self.new.ended ≡ Some result }
         ensures again { IsSome self.old.ended → (self.new ≡ self.old) × (input.new ≡ input.old) × (out.new ≡ out.old) }
         ensures gives { (p : Typed) → IsFresh p self.old → RunGives (program_data p) turns

@@ -5,3 +5,4 @@ pub mod Filled
 pub mod Walks
 pub mod FewLoops
 pub mod Telling
+pub mod Standing

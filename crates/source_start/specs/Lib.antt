@@ -3,3 +3,4 @@ pub mod Zeros
 pub mod Shape
 pub mod Counted
 pub mod Fits
+pub mod Standing

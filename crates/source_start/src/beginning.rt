@@ -2,6 +2,7 @@
 
 ghost use Rattle.std.specs.Prelude.{◌≡◌, ℕ, OnOk};
 ghost use Rattle.c_typed.specs.Programs.{program_data};
+ghost use Rattle.source_start.specs.Fits.{StartsFit};
 ghost use Rattle.source_state.specs.RoomView.{core_of, empty_core};
 ghost use Rattle.source_state.specs.Steps.AtStart.{core_at_start};
 ghost use Rattle.source_state.specs.Steps.Counting.{Counting};
@@ -12,10 +13,9 @@ use source_state::Room;
 use source_values::Types;
 use std::alloc::Global;
 
-/// Puts into an empty room what a run of the program starts with. `NoMemory` comes for want of memory, and where a first value does not
-/// fit into its object, or a pointer does not stand at a multiple of four or stands in a string literal, which is so in no program that
-/// was checked. Of what is in the room then nothing is promised.
+/// Puts into an empty room what a run of the program starts with. Of what is in the room where memory is wanting nothing is promised.
 pub fn start(alloc: Global, types: &Types<'_>, room: &mut Room) -> Result<(), NoMemory>
+    requires { StartsFit (program_data types.now) }
     ensures { (turns : ℕ) (counts : Counting) → core_of room.old ≡ empty_core turns counts
         → OnOk result (core_of room.new ≡ core_at_start (program_data types.now) turns counts) }
 {

@@ -5,6 +5,7 @@ ghost use Rattle.c_typed.specs.RunCounts.Loops.{loops_at, loops_of};
 ghost use Rattle.c_typed.specs.Programs.{data_of, program_data};
 ghost use Rattle.source_state.specs.CountsView.{counting_of};
 ghost use Rattle.source_start.specs.Counted.{begin_in, entry_in};
+ghost use Rattle.source_start.specs.Fits.{StartsFit};
 ghost use Rattle.source_start.specs.Zeros.{no_counts, rows_of};
 
 use c_typed::{Typed, loops_of};
@@ -44,8 +45,9 @@ fn rows(alloc: Global, p: &Typed) -> Result<Vec<Vec<u64>>, NoMemory>
 }
 
 /// The counts of each function, and of each loop of each function, before a run.
+#[tactic(auto, using(crate::proofs::FewLoops::few_in_each))]
 pub fn no_counts(alloc: Global, p: &Typed) -> Result<Counters, NoMemory>
-    requires { All (λ f. loops_of (data_of f) < 2 ^ 32) p.now.functions }
+    requires { StartsFit (program_data p.now) }
     ensures { IfOk result (λ counters. counting_of counters ≡ no_counts (program_data p.now)) }
 {
     let entries = zeros(alloc, p.functions.len())?;

@@ -1,12 +1,13 @@
 //! The blocks of the objects.
 
-ghost use Rattle.std.specs.Prelude.{◌≡◌, ◌<◌, ◌^◌, ◌∷◌, [], ◌++◌, IfOk, length, replicate};
+ghost use Rattle.std.specs.Prelude.{◌≡◌, ◌<◌, ◌^◌, ◌∷◌, [], ◌++◌, All, IfOk, length, replicate};
 ghost use Rattle.memory_words.specs.declared.cell_words.cell.Cell.TheVariants.{Byte};
 ghost use Rattle.block_memory.specs.Blocks.{block, living};
 ghost use Rattle.block_memory.specs.View.{memory_of};
-ghost use Rattle.c_meaning.specs.Program.{initial_memory, object_block, object_kind};
+ghost use Rattle.c_meaning.specs.Program.{initial_memory, none_or, object_block, object_kind};
 ghost use Rattle.c_typed.specs.Programs.{program_data};
 ghost use Rattle.block_memory.specs.RunWorlds.Worlds.{live_bytes, live_in};
+ghost use Rattle.source_start.specs.Fits.{IsFitValue, StartsFit};
 ghost use Rattle.source_start.specs.Writing.{AddGives};
 
 use crate::values::write_all;
@@ -58,6 +59,7 @@ fn add_object(
     types: &Types<'_>,
     o: &Object,
 ) -> Result<u64, NoMemory>
+    requires { All (IsFitValue (program_data types.now) o.now) (none_or o.now.initial) }
     ensures memory { IfOk result (λ n. memory_of store.new ≡ memory_of store.old ++ object_block (program_data types.now) o.now ∷ []) }
     ensures live { IfOk result (λ n. n ≡ live_in (object_block (program_data types.now) o.now).contents) }
     ensures small { IfOk result (λ n. n < 2 ^ 32) }
@@ -69,7 +71,7 @@ fn add_object(
     };
     let size = types.row(o.ty).size;
     let block = add_zeros(alloc, store, size, object_kind(o.text))?;
-    write_all(store, block, all.as_slice())?;
+    write_all(store, block, all.as_slice());
     Ok(live_in(store, block))
 }
 
@@ -79,6 +81,7 @@ pub(crate) fn add_objects(
     store: &mut Store,
     types: &Types<'_>,
 ) -> Result<u64, NoMemory>
+    requires { StartsFit (program_data types.now) }
     ensures memory { IfOk result (λ n. memory_of store.new ≡ memory_of store.old ++ initial_memory (program_data types.now)) }
     ensures live { IfOk result (λ n. n ≡ live_bytes (initial_memory (program_data types.now))) }
 {

@@ -1,11 +1,12 @@
 //! The counts of a run in the order of a profile.
 
-ghost use Rattle.std.specs.Prelude.{◌≡◌, ◌<◌, ◌^◌, All, IfOk, length, map};
+ghost use Rattle.std.specs.Prelude.{◌≡◌, ◌<◌, ◌^◌, IfOk, length, map};
 ghost use Rattle.c_typed.specs.RunCounts.Counting.{count_at, counts_by, name_at, numbers_below};
-ghost use Rattle.c_typed.specs.RunCounts.Loops.{loops_at, loops_of};
-ghost use Rattle.c_typed.specs.Programs.{data_of, program_data};
+ghost use Rattle.c_typed.specs.RunCounts.Loops.{loops_at};
+ghost use Rattle.c_typed.specs.Programs.{program_data};
 ghost use Rattle.source_state.specs.CountsView.{counting_of};
 ghost use Rattle.source_start.specs.Counted.{begin_in, entry_in};
+ghost use Rattle.source_start.specs.Fits.{StartsFit};
 
 use crate::counters::{begin, entry, loops_at};
 use c_typed::{Counts, FunCount, Typed, profile_order};
@@ -55,7 +56,7 @@ fn count_at(alloc: Global, p: &Typed, counters: &Counters, f: u32) -> Result<Fun
 #[tactic(auto, using(crate::proofs::FewLoops::few_loops))]
 pub fn counts(alloc: Global, p: &Typed, counters: &Counters) -> Result<Counts, NoMemory>
     requires functions { length p.now.functions < 2 ^ 32 }
-    requires loops { All (λ f. loops_of (data_of f) < 2 ^ 32) p.now.functions }
+    requires starts { StartsFit (program_data p.now) }
     ensures { IfOk result (λ counts. counts ≡
         counts_by (entry_in (counting_of counters.now)) (begin_in (counting_of counters.now)) (program_data p.now)) }
 {
