@@ -17,6 +17,8 @@ mod code_runs;
 mod laws;
 mod stages;
 
+// A law of the start of a program's run: who runs one need not name the crate that it is from.
+pub use code_bounds::programs_start_fit;
 pub use code_runs::{
     allocations_have_room, calls_are_within, calls_have_room, covered_runs_pass, earlier_fits,
     light_moments_fit, light_runs_fit, runs_add, runs_pass, steps_add, steps_lead, weights_rise,

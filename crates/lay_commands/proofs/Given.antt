@@ -180,6 +180,3 @@ pub few_loops : (fs : List Function) → All (λ f. loops_of f ≤ 131072) (map 
 few_loops fs h =
     All-weaker (λ f. loops_of (data_of f) ≤ 131072) (λ f. loops_of (data_of f) < 2 ^ 32) (λ f few. omega (arith, few)) fs
     (all_of_mapped (λ f. loops_of f ≤ 131072) data_of fs h)
-
-pub few_loops_to_run : (t p : Typed) → t ≡ p → All (λ f. loops_of f ≤ 131072) (map data_of p.functions) → All (λ f. loops_of (data_of f) < 2 ^ 32) t.functions
-few_loops_to_run t p same h = subst (λ (t : Typed). All (λ f. loops_of (data_of f) < 2 ^ 32) t.functions) (sym same) (few_loops p.functions h)

@@ -12,11 +12,9 @@ ghost use Rattle.lay_commands.specs.Answers.{IsOfSource, run_outcome};
 ghost use Rattle.lay_commands.specs.Interpreting.{InterpGives, InterpretGives, Tells};
 
 use crate::words::InterpRequest;
+use compiled_files::programs_start_fit;
 use lay_base::{File, Host, Place, Sink, Source, UndefinedKind};
-use lay_compile::{
-    PlaceTexts, SourceProgram, program_in, programs_have_few_functions, programs_have_few_loops,
-    texts_of,
-};
+use lay_compile::{PlaceTexts, SourceProgram, program_in, programs_have_few_functions, texts_of};
 use refusals::Refusal;
 use source_run::{RunEnd, Runner};
 use std::alloc::Global;
@@ -83,7 +81,7 @@ fn interpret<I: Source, O: Sink>(
     ensures texts { IfErr result (λ refusal. AreTexts source.now.files refusal texts.new) }
 {
     programs_have_few_functions();
-    programs_have_few_loops();
+    programs_start_fit(&source.program);
     let mut runner = Runner::new(alloc, &source.program)?;
     let end = runner.run(alloc, input, out, turns);
     answer_for(alloc, source.files.as_slice(), end, texts)

@@ -13,10 +13,9 @@ ghost use Rattle.lay_commands.specs.Interpreting.{ProfileGives, ProfiledGives};
 use crate::interpreting::answer_for;
 use crate::words::ProfileRequest;
 use crate::writing::write_bytes;
+use compiled_files::programs_start_fit;
 use lay_base::{Host, Sink, Source};
-use lay_compile::{
-    PlaceTexts, SourceProgram, program_in, programs_have_few_functions, programs_have_few_loops,
-};
+use lay_compile::{PlaceTexts, SourceProgram, program_in, programs_have_few_functions};
 use refusals::Refusal;
 use source_run::Runner;
 use std::alloc::Global;
@@ -46,7 +45,7 @@ fn profile_of<I: Source, O: Sink>(
     ensures texts { IfErr result (λ refusal. AreTexts source.now.files refusal texts.new) }
 {
     programs_have_few_functions();
-    programs_have_few_loops();
+    programs_start_fit(&source.program);
     let mut runner = Runner::new(alloc, &source.program)?;
     let end = runner.run(alloc, input, out, turns);
     let status = answer_for(alloc, source.files.as_slice(), end, texts)?;
