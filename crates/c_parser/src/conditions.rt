@@ -6,43 +6,36 @@ ghost use Rattle.c_cursor.specs.Gives.{Reads};
 ghost use Rattle.c_grammar.specs.Reading.{at, is_punctuator};
 ghost use Rattle.c_grammar.specs.StatementReading.{condition_in, expression_if_any};
 
+use crate::means::{Means, Read};
 use c_ast::{At, Expression};
-use c_cursor::{Cursor, Failure, Typenames};
+use c_cursor::Cursor;
 use c_expressions::{Level, expression_inside};
 use c_tokens::Punctuator;
 use lay_base::Boxed;
-use std::alloc::Global;
 
 /// An expression before that punctuator, or none.
 #[tactic(auto, unfolding(c_grammar::specs::StatementReading::expression_if_any))]
 pub fn expression_before(
-    alloc: Global,
-    types: &Typenames,
-    inside: u16,
+    by: Means,
     end: Punctuator,
     tokens: &mut Cursor,
-) -> Result<(Option<Boxed<Expression>>, u32), Failure>
-    ensures { Reads (λ a. option_map expression_of a) result tokens.new (expression_if_any (is_punctuator end) ((at types.now inside).expression) tokens.old) }
+) -> Read<Option<Boxed<Expression>>>
+    ensures { Reads (λ a. option_map expression_of a) result tokens.new (expression_if_any (is_punctuator end) ((at by.entry.types.now by.entry.inside).expression) tokens.old) }
 {
     if tokens.peek(end) {
         return Ok((None, 0));
     }
-    let (value, d) = expression_inside(alloc, types, inside, Level::Expression, tokens)?;
+    let (value, d) = expression_inside(by.alloc, by.types, by.inside, Level::Expression, tokens)?;
     Ok((Some(value), d))
 }
 
 /// `(` expression `)`
 #[tactic(auto, unfolding(c_grammar::specs::StatementReading::condition_in))]
-pub fn condition(
-    alloc: Global,
-    types: &Typenames,
-    inside: u16,
-    tokens: &mut Cursor,
-) -> Result<((At, Boxed<Expression>, At), u32), Failure>
-    ensures { Reads (λ x. (x.0, expression_of x.1, x.2)) result tokens.new (condition_in ((at types.now inside).expression) tokens.old) }
+pub fn condition(by: Means, tokens: &mut Cursor) -> Read<(At, Boxed<Expression>, At)>
+    ensures { Reads (λ x. (x.0, expression_of x.1, x.2)) result tokens.new (condition_in ((at by.entry.types.now by.entry.inside).expression) tokens.old) }
 {
     let left = tokens.expect(Punctuator::Open)?;
-    let (value, d) = expression_inside(alloc, types, inside, Level::Expression, tokens)?;
+    let (value, d) = expression_inside(by.alloc, by.types, by.inside, Level::Expression, tokens)?;
     let right = tokens.expect(Punctuator::Close)?;
     Ok(((left, value, right), d))
 }

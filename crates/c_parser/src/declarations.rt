@@ -8,26 +8,20 @@ ghost use Rattle.c_grammar.specs.StatementReading.{declaration_in, declarators_a
 ghost use Rattle.c_grammar.specs.StatementReading.{more_init_declarators, one_in};
 
 use crate::declarators::{named, valued};
+use crate::means::{Means, Next, Read};
 use c_ast::{At, Declaration, Declarator, InitDeclarator};
-use c_cursor::{Cursor, Failure, Typenames};
+use c_cursor::Cursor;
 use c_expressions::specifiers_inside;
 use c_tokens::Punctuator;
 use lay_base::{Boxed, List, NoMemory, add};
-use std::alloc::Global;
 
 /// A declarator with its name and its initializer, if there is one.
 #[tactic(auto, unfolding(c_grammar::specs::StatementReading::one_in))]
-fn init_declarator(
-    alloc: Global,
-    types: &Typenames,
-    inside: u16,
-    comma: Option<At>,
-    tokens: &mut Cursor,
-) -> Result<(InitDeclarator, u32), Failure>
-    ensures { Reads init_declarator_of result tokens.new (one_in ((at types.now inside).declarator) (initial_at types.now inside) comma tokens.old) }
+fn init_declarator(by: Means, comma: Option<At>, tokens: &mut Cursor) -> Read<InitDeclarator>
+    ensures { Reads init_declarator_of result tokens.new (one_in ((at by.entry.types.now by.entry.inside).declarator) (initial_at by.entry.types.now by.entry.inside) comma tokens.old) }
 {
-    let (declarator, d) = named(alloc, types, inside, tokens)?;
-    let (one, d) = valued(alloc, types, inside, comma, declarator, d, tokens)?;
+    let (declarator, d) = named(by, tokens)?;
+    let (one, d) = valued(by, comma, declarator, d, tokens)?;
     Ok((one, d))
 }
 
@@ -46,18 +40,16 @@ fn with_declarator(
 /// One declarator with its initializer more.
 #[tactic(auto, using(crate::proofs::OneDeclarator::step_by_one))]
 fn next_declarator(
-    alloc: Global,
-    types: &Typenames,
-    inside: u16,
+    by: Means,
     all: List<InitDeclarator>,
     d: u32,
     tokens: &mut Cursor,
-) -> Result<(List<InitDeclarator>, u32, bool), Failure>
+) -> Next<List<InitDeclarator>>
     ensures { Steps (λ all. map init_declarator_of all) result tokens.new
-        (init_declarator_step ((at types.now inside).declarator) (initial_at types.now inside) (map init_declarator_of all) d tokens.old) }
+        (init_declarator_step ((at by.entry.types.now by.entry.inside).declarator) (initial_at by.entry.types.now by.entry.inside) (map init_declarator_of all) d tokens.old) }
 {
     let comma = tokens.comma_before(&all)?;
-    let (one, e) = init_declarator(alloc, types, inside, comma, tokens)?;
+    let (one, e) = init_declarator(by, comma, tokens)?;
     let all = with_declarator(all, one)?;
     Ok((all, d.max(e), tokens.peek(Punctuator::Comma)))
 }
@@ -65,17 +57,15 @@ fn next_declarator(
 /// The declarators after the first, which is read with its initializer.
 #[tactic(auto, using(c_grammar::proofs::Rounds::rounds))]
 fn more_declarators(
-    alloc: Global,
-    types: &Typenames,
-    inside: u16,
+    by: Means,
     first: InitDeclarator,
     depth: u32,
     tokens: &mut Cursor,
-) -> Result<(List<InitDeclarator>, u32), Failure>
+) -> Read<List<InitDeclarator>>
     ensures { Reads (λ all. map init_declarator_of all) result tokens.new
-        (more_init_declarators ((at types.now inside).declarator) (initial_at types.now inside) (init_declarator_of first) depth tokens.old) }
+        (more_init_declarators ((at by.entry.types.now by.entry.inside).declarator) (initial_at by.entry.types.now by.entry.inside) (init_declarator_of first) depth tokens.old) }
 {
-    let mut all = List::new(alloc);
+    let mut all = List::new(by.alloc);
     add(&mut all, first)?;
     if !tokens.peek(Punctuator::Comma) {
         return Ok((all, depth));
@@ -83,7 +73,7 @@ fn more_declarators(
     let mut d = depth;
     let mut rounds = tokens.len() as u64 + 1;
     'more: while rounds > 0 {
-        let (more, e, on) = next_declarator(alloc, types, inside, all, d, tokens)?;
+        let (more, e, on) = next_declarator(by, all, d, tokens)?;
         all = more;
         d = e;
         rounds -= 1;
@@ -97,55 +87,41 @@ fn more_declarators(
 /// All declarators, after the first, which is read.
 #[tactic(auto, unfolding(c_grammar::specs::StatementReading::declarators_after))]
 pub fn declarators_after(
-    alloc: Global,
-    types: &Typenames,
-    inside: u16,
+    by: Means,
     declarator: Boxed<Declarator>,
     d: u32,
     tokens: &mut Cursor,
-) -> Result<(List<InitDeclarator>, u32), Failure>
+) -> Read<List<InitDeclarator>>
     ensures { Reads (λ all. map init_declarator_of all) result tokens.new
-        (declarators_after ((at types.now inside).declarator) (initial_at types.now inside) (declarator_of declarator) d tokens.old) }
+        (declarators_after ((at by.entry.types.now by.entry.inside).declarator) (initial_at by.entry.types.now by.entry.inside) (declarator_of declarator) d tokens.old) }
 {
-    let (first, d) = valued(alloc, types, inside, None, declarator, d, tokens)?;
-    let (all, d) = more_declarators(alloc, types, inside, first, d, tokens)?;
+    let (first, d) = valued(by, None, declarator, d, tokens)?;
+    let (all, d) = more_declarators(by, first, d, tokens)?;
     Ok((all, d))
 }
 
 /// The declarators of a declaration; where it need not have one, there may be none.
 #[tactic(auto, unfolding(c_grammar::specs::StatementReading::declarators_in))]
-fn declarators(
-    alloc: Global,
-    types: &Typenames,
-    full: bool,
-    inside: u16,
-    tokens: &mut Cursor,
-) -> Result<(List<InitDeclarator>, u32), Failure>
+fn declarators(by: Means, full: bool, tokens: &mut Cursor) -> Read<List<InitDeclarator>>
     ensures { Reads (λ all. map init_declarator_of all) result tokens.new
-        (declarators_if_any full ((at types.now inside).declarator) (initial_at types.now inside) tokens.old) }
+        (declarators_if_any full ((at by.entry.types.now by.entry.inside).declarator) (initial_at by.entry.types.now by.entry.inside) tokens.old) }
 {
     if !full && tokens.peek(Punctuator::Semicolon) {
-        return Ok((List::new(alloc), 0));
+        return Ok((List::new(by.alloc), 0));
     }
-    let (declarator, d) = named(alloc, types, inside, tokens)?;
-    let (all, d) = declarators_after(alloc, types, inside, declarator, d, tokens)?;
+    let (declarator, d) = named(by, tokens)?;
+    let (all, d) = declarators_after(by, declarator, d, tokens)?;
     Ok((all, d))
 }
 
 /// A declaration of parts of a depth of at most `inside`. Where it is to be full, it has a
 /// declarator.
 #[tactic(auto, unfolding(c_grammar::specs::StatementReading::declaration_in))]
-pub fn declaration(
-    alloc: Global,
-    types: &Typenames,
-    full: bool,
-    inside: u16,
-    tokens: &mut Cursor,
-) -> Result<(Declaration, u32), Failure>
-    ensures { Reads declaration_of result tokens.new (declaration_in full types.now inside tokens.old) }
+pub fn declaration(by: Means, full: bool, tokens: &mut Cursor) -> Read<Declaration>
+    ensures { Reads declaration_of result tokens.new (declaration_in full by.entry.types.now by.entry.inside tokens.old) }
 {
-    let (specifiers, d) = specifiers_inside(alloc, types, inside, tokens)?;
-    let (declarators, e) = declarators(alloc, types, full, inside, tokens)?;
+    let (specifiers, d) = specifiers_inside(by.alloc, by.types, by.inside, tokens)?;
+    let (declarators, e) = declarators(by, full, tokens)?;
     let semicolon = tokens.expect(Punctuator::Semicolon)?;
     let whole = Declaration {
         specifiers,

@@ -6,24 +6,19 @@ ghost use Rattle.c_grammar.specs.Reading.{at};
 ghost use Rattle.c_grammar.specs.StatementReading.{initial_at, named_in, valued_in};
 
 use crate::initializers::initializer_inside;
+use crate::means::{Means, Read};
 use c_ast::{At, Declarator, InitDeclarator, InitialValue};
-use c_cursor::{Cursor, Failure, Typenames};
+use c_cursor::Cursor;
 use c_expressions::{declarator_inside, has_name};
 use c_tokens::Punctuator;
 use lay_base::Boxed;
-use std::alloc::Global;
 
 /// A declarator with its name.
 #[tactic(auto, unfolding(c_grammar::specs::StatementReading::named_in))]
-pub fn named(
-    alloc: Global,
-    types: &Typenames,
-    inside: u16,
-    tokens: &mut Cursor,
-) -> Result<(Boxed<Declarator>, u32), Failure>
-    ensures { Reads declarator_of result tokens.new (named_in ((at types.now inside).declarator) tokens.old) }
+pub fn named(by: Means, tokens: &mut Cursor) -> Read<Boxed<Declarator>>
+    ensures { Reads declarator_of result tokens.new (named_in ((at by.entry.types.now by.entry.inside).declarator) tokens.old) }
 {
-    let (declarator, d) = declarator_inside(alloc, types, inside, tokens)?;
+    let (declarator, d) = declarator_inside(by.alloc, by.types, by.inside, tokens)?;
     match declarator {
         Some(declarator) => {
             if !has_name(declarator.get()) {
@@ -38,19 +33,17 @@ pub fn named(
 /// A declarator that is read, with its initializer if there is one.
 #[tactic(auto, unfolding(c_grammar::specs::StatementReading::valued_in))]
 pub fn valued(
-    alloc: Global,
-    types: &Typenames,
-    inside: u16,
+    by: Means,
     comma: Option<At>,
     declarator: Boxed<Declarator>,
     d: u32,
     tokens: &mut Cursor,
-) -> Result<(InitDeclarator, u32), Failure>
-    ensures { Reads init_declarator_of result tokens.new (valued_in (initial_at types.now inside) comma (declarator_of declarator) d tokens.old) }
+) -> Read<InitDeclarator>
+    ensures { Reads init_declarator_of result tokens.new (valued_in (initial_at by.entry.types.now by.entry.inside) comma (declarator_of declarator) d tokens.old) }
 {
     match tokens.accept(Punctuator::Equal) {
         Some(equal) => {
-            let (value, e) = initializer_inside(alloc, types, inside, tokens)?;
+            let (value, e) = initializer_inside(by, tokens)?;
             let whole = InitDeclarator {
                 comma,
                 declarator: declarator.into_inner(),

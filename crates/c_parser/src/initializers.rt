@@ -6,28 +6,26 @@ ghost use Rattle.c_cursor.specs.Gives.{Gives, Reads, Steps};
 ghost use Rattle.c_grammar.specs.Reading.{at, chain};
 ghost use Rattle.c_grammar.specs.StatementReading.{braces_in, initial_at, initial_in, initial_step};
 
+use crate::means::{Means, Next, Read};
 use c_ast::{Argument, At, Expression};
-use c_cursor::{Cursor, Failure, Typenames, deeper_than};
+use c_cursor::{Cursor, deeper_than};
 use c_expressions::{Level, expression_inside};
 use c_tokens::Punctuator;
 use lay_base::{Boxed, List, add, boxed};
-use std::alloc::Global;
 
 /// One initializer in braces more.
 #[cycle(initializer)]
 #[tactic(auto, unfolding(c_grammar::specs::StatementReading::initial_step))]
 fn next_initializer(
-    alloc: Global,
-    types: &Typenames,
-    inside: u16,
+    by: Means,
     all: List<Argument>,
     d: u32,
     tokens: &mut Cursor,
-) -> Result<(List<Argument>, u32, bool), Failure>
-    ensures { Steps (λ all. map argument_of all) result tokens.new (initial_step (initial_at types.now inside) (map argument_of all) d tokens.old) }
+) -> Next<List<Argument>>
+    ensures { Steps (λ all. map argument_of all) result tokens.new (initial_step (initial_at by.entry.types.now by.entry.inside) (map argument_of all) d tokens.old) }
 {
     let comma = tokens.comma_before(&all)?;
-    let (value, e) = initializer_inside(alloc, types, inside, tokens)?;
+    let (value, e) = initializer_inside(by, tokens)?;
     let item = Argument {
         comma,
         value: value.into_inner(),
@@ -40,20 +38,15 @@ fn next_initializer(
 /// The initializers up to `}`, or the comma before it.
 #[cycle(initializer)]
 #[tactic(auto, using(c_grammar::proofs::Rounds::rounds))]
-fn initializers(
-    alloc: Global,
-    types: &Typenames,
-    inside: u16,
-    tokens: &mut Cursor,
-) -> Result<(List<Argument>, u32), Failure>
+fn initializers(by: Means, tokens: &mut Cursor) -> Read<List<Argument>>
     ensures { Reads (λ all. map argument_of all) result tokens.new
-        (chain (initial_step (initial_at types.now inside)) (length tokens.old + 1) [] 0 tokens.old) }
+        (chain (initial_step (initial_at by.entry.types.now by.entry.inside)) (length tokens.old + 1) [] 0 tokens.old) }
 {
-    let mut all = List::new(alloc);
+    let mut all = List::new(by.alloc);
     let mut d = 0;
     let mut rounds = tokens.len() as u64 + 1;
     'more: while rounds > 0 {
-        let (more, e, on) = next_initializer(alloc, types, inside, all, d, tokens)?;
+        let (more, e, on) = next_initializer(by, all, d, tokens)?;
         all = more;
         d = e;
         rounds -= 1;
@@ -67,21 +60,15 @@ fn initializers(
 /// Initializers in braces, from after `{` on.
 #[cycle(initializer)]
 #[tactic(auto, unfolding(c_grammar::specs::StatementReading::braces_in))]
-fn braces(
-    alloc: Global,
-    types: &Typenames,
-    inside: u16,
-    left: At,
-    tokens: &mut Cursor,
-) -> Result<(Boxed<Expression>, u32), Failure>
-    ensures { Reads expression_of result tokens.new (braces_in inside (initial_at types.now inside) left tokens.old) }
+fn braces(by: Means, left: At, tokens: &mut Cursor) -> Read<Boxed<Expression>>
+    ensures { Reads expression_of result tokens.new (braces_in by.entry.inside (initial_at by.entry.types.now by.entry.inside) left tokens.old) }
 {
-    let (all, d) = initializers(alloc, types, inside, tokens)?;
+    let (all, d) = initializers(by, tokens)?;
     let comma = tokens.comma_if_any();
     let right = tokens.expect(Punctuator::CloseBrace)?;
-    let d = deeper_than(inside, d, tokens)?;
+    let d = deeper_than(by.inside, d, tokens)?;
     Ok((
-        boxed(alloc, Expression::Braces(left, all, comma, right))?,
+        boxed(by.alloc, Expression::Braces(left, all, comma, right))?,
         d,
     ))
 }
@@ -89,22 +76,23 @@ fn braces(
 /// An initializer.
 #[cycle(initializer)]
 #[tactic(auto, unfolding(c_grammar::specs::StatementReading::initial_in))]
-fn initializer(
-    alloc: Global,
-    types: &Typenames,
-    inside: u16,
-    tokens: &mut Cursor,
-) -> Result<(Boxed<Expression>, u32), Failure>
-    ensures { Reads expression_of result tokens.new (initial_in inside ((at types.now inside).assignment) (initial_at types.now inside) tokens.old) }
+fn initializer(by: Means, tokens: &mut Cursor) -> Read<Boxed<Expression>>
+    ensures { Reads expression_of result tokens.new (initial_in by.entry.inside ((at by.entry.types.now by.entry.inside).assignment) (initial_at by.entry.types.now by.entry.inside) tokens.old) }
 {
     match tokens.accept(Punctuator::OpenBrace) {
         Some(left) => {
-            let (whole, d) = braces(alloc, types, inside, left, tokens)?;
+            let (whole, d) = braces(by, left, tokens)?;
             Ok((whole, d))
         }
         None => {
-            let (value, d) = expression_inside(alloc, types, inside, Level::Assignment, tokens)?;
-            let d = deeper_than(inside, d, tokens)?;
+            let (value, d) = expression_inside(
+                by.alloc,
+                by.types,
+                by.inside,
+                Level::Assignment,
+                tokens,
+            )?;
+            let d = deeper_than(by.inside, d, tokens)?;
             Ok((value, d))
         }
     }
@@ -112,16 +100,15 @@ fn initializer(
 
 /// An initializer, of a depth of at most `inside`.
 #[cycle(initializer)]
-pub fn initializer_inside(
-    alloc: Global,
-    types: &Typenames,
-    inside: u16,
-    tokens: &mut Cursor,
-) -> Result<(Boxed<Expression>, u32), Failure>
-    ensures { Reads expression_of result tokens.new (initial_at types.now inside tokens.old) }
+pub fn initializer_inside(by: Means, tokens: &mut Cursor) -> Read<Boxed<Expression>>
+    ensures { Reads expression_of result tokens.new (initial_at by.entry.types.now by.entry.inside tokens.old) }
 {
-    if inside == 0 {
+    if by.inside == 0 {
         return Err(tokens.stop());
     }
-    initializer(alloc, types, inside - 1, tokens)
+    let by = Means {
+        inside: by.inside - 1,
+        ..by
+    };
+    initializer(by, tokens)
 }

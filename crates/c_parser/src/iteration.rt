@@ -6,50 +6,38 @@ ghost use Rattle.c_grammar.specs.StatementReading.{below_at, do_in, for_in, for_
 
 use crate::conditions::{condition, expression_before};
 use crate::declarations::declaration;
+use crate::means::{Means, Read};
 use crate::statements::statement_inside;
 use c_ast::{At, ForStart, Statement};
-use c_cursor::{Cursor, Failure, Typenames, deeper_than};
+use c_cursor::{Cursor, deeper_than};
 use c_tokens::Punctuator;
 use lay_base::{Keyword, boxed};
-use std::alloc::Global;
 
 /// What stands after `while`.
 #[cycle(statement)]
 #[tactic(auto, unfolding(c_grammar::specs::StatementReading::while_in))]
-pub fn while_loop(
-    alloc: Global,
-    types: &Typenames,
-    inside: u16,
-    place: At,
-    tokens: &mut Cursor,
-) -> Result<(Statement, u32), Failure>
-    ensures { Reads statement_of result tokens.new (while_in inside (below_at types.now inside (statement_at types.now inside)) place tokens.old) }
+pub fn while_loop(by: Means, place: At, tokens: &mut Cursor) -> Read<Statement>
+    ensures { Reads statement_of result tokens.new (while_in by.entry.inside (below_at by.entry.types.now by.entry.inside (statement_at by.entry.types.now by.entry.inside)) place tokens.old) }
 {
-    let ((left, value, right), d) = condition(alloc, types, inside, tokens)?;
-    let (body, e) = statement_inside(alloc, types, inside, tokens)?;
-    let body = boxed(alloc, body)?;
-    let d = deeper_than(inside, d.max(e), tokens)?;
+    let ((left, value, right), d) = condition(by, tokens)?;
+    let (body, e) = statement_inside(by, tokens)?;
+    let body = boxed(by.alloc, body)?;
+    let d = deeper_than(by.inside, d.max(e), tokens)?;
     Ok((Statement::While(place, left, value, right, body), d))
 }
 
 /// What stands after `do`.
 #[cycle(statement)]
 #[tactic(auto, unfolding(c_grammar::specs::StatementReading::do_in))]
-pub fn do_loop(
-    alloc: Global,
-    types: &Typenames,
-    inside: u16,
-    place: At,
-    tokens: &mut Cursor,
-) -> Result<(Statement, u32), Failure>
-    ensures { Reads statement_of result tokens.new (do_in inside (below_at types.now inside (statement_at types.now inside)) place tokens.old) }
+pub fn do_loop(by: Means, place: At, tokens: &mut Cursor) -> Read<Statement>
+    ensures { Reads statement_of result tokens.new (do_in by.entry.inside (below_at by.entry.types.now by.entry.inside (statement_at by.entry.types.now by.entry.inside)) place tokens.old) }
 {
-    let (body, d) = statement_inside(alloc, types, inside, tokens)?;
-    let body = boxed(alloc, body)?;
+    let (body, d) = statement_inside(by, tokens)?;
+    let body = boxed(by.alloc, body)?;
     let test = tokens.expect_keyword(Keyword::While)?;
-    let ((left, value, right), e) = condition(alloc, types, inside, tokens)?;
+    let ((left, value, right), e) = condition(by, tokens)?;
     let semicolon = tokens.expect(Punctuator::Semicolon)?;
-    let d = deeper_than(inside, d.max(e), tokens)?;
+    let d = deeper_than(by.inside, d.max(e), tokens)?;
     Ok((
         Statement::DoWhile(place, body, test, left, value, right, semicolon),
         d,
@@ -58,19 +46,14 @@ pub fn do_loop(
 
 /// What stands first in the parentheses of a `for`.
 #[tactic(auto, unfolding(c_grammar::specs::StatementReading::for_start_in))]
-fn start(
-    alloc: Global,
-    types: &Typenames,
-    inside: u16,
-    tokens: &mut Cursor,
-) -> Result<(ForStart, u32), Failure>
-    ensures { Reads for_start_of result tokens.new (for_start_in (below_at types.now inside (statement_at types.now inside)) tokens.old) }
+fn start(by: Means, tokens: &mut Cursor) -> Read<ForStart>
+    ensures { Reads for_start_of result tokens.new (for_start_in (below_at by.entry.types.now by.entry.inside (statement_at by.entry.types.now by.entry.inside)) tokens.old) }
 {
-    if tokens.begins_specifier(types) {
-        let (declaration, d) = declaration(alloc, types, true, inside, tokens)?;
+    if tokens.begins_specifier(by.types) {
+        let (declaration, d) = declaration(by, true, tokens)?;
         Ok((ForStart::Declaration(declaration), d))
     } else {
-        let (value, d) = expression_before(alloc, types, inside, Punctuator::Semicolon, tokens)?;
+        let (value, d) = expression_before(by, Punctuator::Semicolon, tokens)?;
         let semicolon = tokens.expect(Punctuator::Semicolon)?;
         Ok((ForStart::Expression(value, semicolon), d))
     }
@@ -79,24 +62,18 @@ fn start(
 /// What stands after `for`.
 #[cycle(statement)]
 #[tactic(auto, unfolding(c_grammar::specs::StatementReading::for_in))]
-pub fn for_loop(
-    alloc: Global,
-    types: &Typenames,
-    inside: u16,
-    place: At,
-    tokens: &mut Cursor,
-) -> Result<(Statement, u32), Failure>
-    ensures { Reads statement_of result tokens.new (for_in inside (below_at types.now inside (statement_at types.now inside)) place tokens.old) }
+pub fn for_loop(by: Means, place: At, tokens: &mut Cursor) -> Read<Statement>
+    ensures { Reads statement_of result tokens.new (for_in by.entry.inside (below_at by.entry.types.now by.entry.inside (statement_at by.entry.types.now by.entry.inside)) place tokens.old) }
 {
     let left = tokens.expect(Punctuator::Open)?;
-    let (start, d) = start(alloc, types, inside, tokens)?;
-    let (test, e) = expression_before(alloc, types, inside, Punctuator::Semicolon, tokens)?;
+    let (start, d) = start(by, tokens)?;
+    let (test, e) = expression_before(by, Punctuator::Semicolon, tokens)?;
     let semicolon = tokens.expect(Punctuator::Semicolon)?;
-    let (step, f) = expression_before(alloc, types, inside, Punctuator::Close, tokens)?;
+    let (step, f) = expression_before(by, Punctuator::Close, tokens)?;
     let right = tokens.expect(Punctuator::Close)?;
-    let (body, g) = statement_inside(alloc, types, inside, tokens)?;
-    let body = boxed(alloc, body)?;
-    let d = deeper_than(inside, d.max(e).max(f).max(g), tokens)?;
+    let (body, g) = statement_inside(by, tokens)?;
+    let body = boxed(by.alloc, body)?;
+    let d = deeper_than(by.inside, d.max(e).max(f).max(g), tokens)?;
     Ok((
         Statement::For(place, left, start, test, semicolon, step, right, body),
         d,

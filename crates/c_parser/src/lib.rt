@@ -16,6 +16,7 @@ mod initializers;
 mod items;
 mod iteration;
 mod laws;
+mod means;
 mod openings;
 mod parsing;
 mod selection;

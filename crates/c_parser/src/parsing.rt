@@ -12,6 +12,7 @@ ghost use Rattle.c_parser.specs.Parsing.{IsPlaceIn, ParseGives};
 
 use crate::faults::ParseFault;
 use crate::items::item;
+use crate::means::Means;
 use crate::typenames::add_types;
 use c_ast::{Item, Tree};
 use c_cursor::{Cursor, Failure, Typenames};
@@ -73,7 +74,12 @@ fn items_of(alloc: Global, tokens: &mut Cursor) -> Result<List<Item>, Failure>
             return Err(tokens.stop());
         }
         rounds -= 1;
-        let (one, _) = item(alloc, &types, DEPTH - 1, tokens)?;
+        let by = Means {
+            alloc,
+            types: &types,
+            inside: DEPTH - 1,
+        };
+        let (one, _) = item(by, tokens)?;
         all = kept(alloc, &mut types, all, one)?;
     }
     Ok(all)

@@ -6,31 +6,30 @@ ghost use Rattle.c_cursor.specs.Gives.{Gives, Reads, Steps};
 ghost use Rattle.c_grammar.specs.Reading.{chain};
 ghost use Rattle.c_grammar.specs.StatementReading.{below_at, label_step, statement_at};
 
+use crate::means::{Means, Next, Read};
 use c_ast::Label;
-use c_cursor::{Cursor, Failure, Typenames};
+use c_cursor::Cursor;
 use c_expressions::{Level, expression_inside};
 use c_tokens::{Punctuator, TokenKind};
 use lay_base::{Keyword, List, add};
-use std::alloc::Global;
 
 /// One label more, if one stands at the front.
 #[tactic(auto, unfolding(c_grammar::specs::StatementReading::label_step))]
-fn next_label(
-    alloc: Global,
-    types: &Typenames,
-    inside: u16,
-    all: List<Label>,
-    d: u32,
-    tokens: &mut Cursor,
-) -> Result<(List<Label>, u32, bool), Failure>
+fn next_label(by: Means, all: List<Label>, d: u32, tokens: &mut Cursor) -> Next<List<Label>>
     ensures { Steps (λ all. map label_of all) result tokens.new
-        (label_step (below_at types.now inside (statement_at types.now inside)) (map label_of all) d tokens.old) }
+        (label_step (below_at by.entry.types.now by.entry.inside (statement_at by.entry.types.now by.entry.inside)) (map label_of all) d tokens.old) }
 {
     let mut all = all;
     match tokens.front() {
         Some(TokenKind::Keyword(Keyword::Case)) => {
             let place = tokens.advance();
-            let (value, e) = expression_inside(alloc, types, inside, Level::Conditional, tokens)?;
+            let (value, e) = expression_inside(
+                by.alloc,
+                by.types,
+                by.inside,
+                Level::Conditional,
+                tokens,
+            )?;
             let colon = tokens.expect(Punctuator::Colon)?;
             add(&mut all, Label::Case(place, value.into_inner(), colon))?;
             Ok((all, d.max(e), true))
@@ -47,20 +46,15 @@ fn next_label(
 
 /// The labels before a statement.
 #[tactic(auto, using(c_grammar::proofs::Rounds::rounds))]
-pub fn labels(
-    alloc: Global,
-    types: &Typenames,
-    inside: u16,
-    tokens: &mut Cursor,
-) -> Result<(List<Label>, u32), Failure>
+pub fn labels(by: Means, tokens: &mut Cursor) -> Read<List<Label>>
     ensures { Reads (λ all. map label_of all) result tokens.new
-        (chain (label_step (below_at types.now inside (statement_at types.now inside))) (length tokens.old + 1) [] 0 tokens.old) }
+        (chain (label_step (below_at by.entry.types.now by.entry.inside (statement_at by.entry.types.now by.entry.inside))) (length tokens.old + 1) [] 0 tokens.old) }
 {
-    let mut all = List::new(alloc);
+    let mut all = List::new(by.alloc);
     let mut d = 0;
     let mut rounds = tokens.len() as u64 + 1;
     'more: while rounds > 0 {
-        let (more, e, on) = next_label(alloc, types, inside, all, d, tokens)?;
+        let (more, e, on) = next_label(by, all, d, tokens)?;
         all = more;
         d = e;
         rounds -= 1;

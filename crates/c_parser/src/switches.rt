@@ -8,46 +8,36 @@ ghost use Rattle.c_grammar.specs.StatementReading.{below_at, labelled_in, statem
 
 use crate::conditions::condition;
 use crate::declarations::declaration;
+use crate::means::{Means, Next, Read};
 use crate::statements::statement_inside;
 use crate::switch_labels::labels;
 use c_ast::{At, Statement, SwitchItem};
-use c_cursor::{Cursor, Failure, Typenames, deeper_than};
+use c_cursor::{Cursor, deeper_than};
 use c_tokens::Punctuator;
 use lay_base::{List, add};
-use std::alloc::Global;
 
 /// A statement with the labels before it.
 #[cycle(statement)]
 #[tactic(auto, unfolding(c_grammar::specs::StatementReading::labelled_in))]
-fn labelled(
-    alloc: Global,
-    types: &Typenames,
-    inside: u16,
-    tokens: &mut Cursor,
-) -> Result<(SwitchItem, u32), Failure>
-    ensures { Reads switch_item_of result tokens.new (labelled_in (below_at types.now inside (statement_at types.now inside)) tokens.old) }
+fn labelled(by: Means, tokens: &mut Cursor) -> Read<SwitchItem>
+    ensures { Reads switch_item_of result tokens.new (labelled_in (below_at by.entry.types.now by.entry.inside (statement_at by.entry.types.now by.entry.inside)) tokens.old) }
 {
-    let (labels, d) = labels(alloc, types, inside, tokens)?;
-    let (statement, e) = statement_inside(alloc, types, inside, tokens)?;
+    let (labels, d) = labels(by, tokens)?;
+    let (statement, e) = statement_inside(by, tokens)?;
     Ok((SwitchItem::Labelled(labels, statement), d.max(e)))
 }
 
 /// An item of a switch's body.
 #[cycle(statement)]
 #[tactic(auto, unfolding(c_grammar::specs::StatementReading::switch_item_in))]
-fn switch_item(
-    alloc: Global,
-    types: &Typenames,
-    inside: u16,
-    tokens: &mut Cursor,
-) -> Result<(SwitchItem, u32), Failure>
-    ensures { Reads switch_item_of result tokens.new (switch_item_in (below_at types.now inside (statement_at types.now inside)) tokens.old) }
+fn switch_item(by: Means, tokens: &mut Cursor) -> Read<SwitchItem>
+    ensures { Reads switch_item_of result tokens.new (switch_item_in (below_at by.entry.types.now by.entry.inside (statement_at by.entry.types.now by.entry.inside)) tokens.old) }
 {
-    if tokens.begins_specifier(types) {
-        let (declaration, d) = declaration(alloc, types, true, inside, tokens)?;
+    if tokens.begins_specifier(by.types) {
+        let (declaration, d) = declaration(by, true, tokens)?;
         Ok((SwitchItem::Local(declaration), d))
     } else {
-        let (item, d) = labelled(alloc, types, inside, tokens)?;
+        let (item, d) = labelled(by, tokens)?;
         Ok((item, d))
     }
 }
@@ -56,20 +46,18 @@ fn switch_item(
 #[cycle(statement)]
 #[tactic(auto, unfolding(c_grammar::specs::StatementReading::switch_item_step))]
 fn next_switch_item(
-    alloc: Global,
-    types: &Typenames,
-    inside: u16,
+    by: Means,
     all: List<SwitchItem>,
     d: u32,
     tokens: &mut Cursor,
-) -> Result<(List<SwitchItem>, u32, bool), Failure>
+) -> Next<List<SwitchItem>>
     ensures { Steps (λ all. map switch_item_of all) result tokens.new
-        (switch_item_step (below_at types.now inside (statement_at types.now inside)) (map switch_item_of all) d tokens.old) }
+        (switch_item_step (below_at by.entry.types.now by.entry.inside (statement_at by.entry.types.now by.entry.inside)) (map switch_item_of all) d tokens.old) }
 {
     if tokens.peek(Punctuator::CloseBrace) {
         return Ok((all, d, false));
     }
-    let (item, e) = switch_item(alloc, types, inside, tokens)?;
+    let (item, e) = switch_item(by, tokens)?;
     let mut all = all;
     add(&mut all, item)?;
     Ok((all, d.max(e), true))
@@ -78,20 +66,15 @@ fn next_switch_item(
 /// The items of a switch's body up to `}`.
 #[cycle(statement)]
 #[tactic(auto, using(c_grammar::proofs::Rounds::rounds))]
-fn switch_items(
-    alloc: Global,
-    types: &Typenames,
-    inside: u16,
-    tokens: &mut Cursor,
-) -> Result<(List<SwitchItem>, u32), Failure>
+fn switch_items(by: Means, tokens: &mut Cursor) -> Read<List<SwitchItem>>
     ensures { Reads (λ all. map switch_item_of all) result tokens.new
-        (chain (switch_item_step (below_at types.now inside (statement_at types.now inside))) (length tokens.old + 1) [] 0 tokens.old) }
+        (chain (switch_item_step (below_at by.entry.types.now by.entry.inside (statement_at by.entry.types.now by.entry.inside))) (length tokens.old + 1) [] 0 tokens.old) }
 {
-    let mut all = List::new(alloc);
+    let mut all = List::new(by.alloc);
     let mut d = 0;
     let mut rounds = tokens.len() as u64 + 1;
     'more: while rounds > 0 {
-        let (more, e, on) = next_switch_item(alloc, types, inside, all, d, tokens)?;
+        let (more, e, on) = next_switch_item(by, all, d, tokens)?;
         all = more;
         d = e;
         rounds -= 1;
@@ -105,20 +88,14 @@ fn switch_items(
 /// What stands after `switch`.
 #[cycle(statement)]
 #[tactic(auto, unfolding(c_grammar::specs::StatementReading::switch_in))]
-pub fn switch(
-    alloc: Global,
-    types: &Typenames,
-    inside: u16,
-    place: At,
-    tokens: &mut Cursor,
-) -> Result<(Statement, u32), Failure>
-    ensures { Reads statement_of result tokens.new (switch_in inside (below_at types.now inside (statement_at types.now inside)) place tokens.old) }
+pub fn switch(by: Means, place: At, tokens: &mut Cursor) -> Read<Statement>
+    ensures { Reads statement_of result tokens.new (switch_in by.entry.inside (below_at by.entry.types.now by.entry.inside (statement_at by.entry.types.now by.entry.inside)) place tokens.old) }
 {
-    let ((left, value, right), d) = condition(alloc, types, inside, tokens)?;
+    let ((left, value, right), d) = condition(by, tokens)?;
     let begin = tokens.expect(Punctuator::OpenBrace)?;
-    let (all, e) = switch_items(alloc, types, inside, tokens)?;
+    let (all, e) = switch_items(by, tokens)?;
     let end = tokens.expect(Punctuator::CloseBrace)?;
-    let d = deeper_than(inside, d.max(e), tokens)?;
+    let d = deeper_than(by.inside, d.max(e), tokens)?;
     Ok((
         Statement::Switch(place, left, value, right, begin, all, end),
         d,

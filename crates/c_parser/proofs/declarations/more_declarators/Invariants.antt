@@ -6,7 +6,7 @@ use Rattle.c_parser.proofs.declarations.more_declarators.Given as goal
 
 abbrev pub invariant-more : goal.invariant-more
 invariant-more l =
-    let step = init_declarator_step ((at l.types l.inside).declarator) (initial_at l.types l.inside) in
+    let step = init_declarator_step ((at l.by.types.now l.by.inside).declarator) (initial_at l.by.types.now l.by.inside) in
     chain step l.rounds (map init_declarator_of l.all) l.d l.tokens
     ≡ chain step (length l.fn.tokens + 1) (init_declarator_of l.fn.first ∷ []) l.fn.depth l.fn.tokens
 

@@ -9,23 +9,23 @@ abbrev measure : ℕ → ℕ → ℕ
 measure inside rank = 5 * inside + rank
 
 abbrev pub decreases-initializer_inside : goal.decreases-initializer_inside
-decreases-initializer_inside l = measure l.inside 0
+decreases-initializer_inside l = measure l.by.inside 0
 
 abbrev pub decreases-next_initializer : goal.decreases-next_initializer
-decreases-next_initializer l = measure l.inside 1
+decreases-next_initializer l = measure l.by.inside 1
 
 abbrev pub decreases-initializers : goal.decreases-initializers
-decreases-initializers l = measure l.inside 2
+decreases-initializers l = measure l.by.inside 2
 
 abbrev pub decreases-braces : goal.decreases-braces
-decreases-braces l = measure l.inside 3
+decreases-braces l = measure l.by.inside 3
 
 abbrev pub decreases-initializer : goal.decreases-initializer
-decreases-initializer l = measure l.inside 4
+decreases-initializer l = measure l.by.inside 4
 
 abbrev pub invariant-initializers-more : goal.invariant-initializers-more
 invariant-initializers-more l =
-    let step = initial_step (initial_at l.types l.inside) in
+    let step = initial_step (initial_at l.by.types.now l.by.inside) in
     chain step l.rounds (map argument_of l.all) l.d l.tokens ≡ chain step (length l.fn.tokens + 1) [] 0 l.fn.tokens
 
 abbrev pub decreases-initializers-more : goal.decreases-initializers-more

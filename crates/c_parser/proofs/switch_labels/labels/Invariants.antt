@@ -6,7 +6,7 @@ use Rattle.c_parser.proofs.switch_labels.labels.Given as goal
 
 abbrev pub invariant-more : goal.invariant-more
 invariant-more l =
-    let step = label_step (below_at l.types l.inside (statement_at l.types l.inside)) in
+    let step = label_step (below_at l.by.types.now l.by.inside (statement_at l.by.types.now l.by.inside)) in
     chain step l.rounds (map label_of l.all) l.d l.tokens ≡ chain step (length l.fn.tokens + 1) [] 0 l.fn.tokens
 
 abbrev pub decreases-more : goal.decreases-more
