@@ -6,7 +6,7 @@ ghost use Rattle.c_cursor.specs.Gives.{Gives, Reads, Steps};
 ghost use Rattle.c_grammar.specs.Reading.{at, chain};
 ghost use Rattle.c_grammar.specs.StatementReading.{braces_in, initial_at, initial_in, initial_step};
 
-use crate::means::{Means, Next, Read};
+use crate::means::{Means, Next, Read, all_by};
 use c_ast::{Argument, At, Expression};
 use c_cursor::{Cursor, deeper_than};
 use c_expressions::{Level, expression_inside};
@@ -42,19 +42,7 @@ fn initializers(by: Means, tokens: &mut Cursor) -> Read<List<Argument>>
     ensures { Reads (λ all. map argument_of all) result tokens.new
         (chain (initial_step (initial_at by.entry.types.now by.entry.inside)) (length tokens.old + 1) [] 0 tokens.old) }
 {
-    let mut all = List::new(by.alloc);
-    let mut d = 0;
-    let mut rounds = tokens.len() as u64 + 1;
-    'more: while rounds > 0 {
-        let (more, e, on) = next_initializer(by, all, d, tokens)?;
-        all = more;
-        d = e;
-        rounds -= 1;
-        if !on {
-            return Ok((all, d));
-        }
-    }
-    Err(tokens.stop())
+    all_by!(next_initializer, by, tokens)
 }
 
 /// Initializers in braces, from after `{` on.

@@ -2,7 +2,7 @@
 
 ghost use Rattle.std.specs.Prelude.{◌≡◌, ◌≤◌, ◌++◌, ◌∷◌, length, map, [], IfOk, OnOk};
 ghost use Rattle.c_ast.specs.Lexemes.{lexemes_of};
-ghost use Rattle.c_ast.specs.TreesOfFiles.{first_unsupported, is_unsupported};
+ghost use Rattle.c_ast.specs.TreesOfFiles.{first_unsupported};
 ghost use Rattle.c_ast.specs.Views.{item_of};
 ghost use Rattle.c_ast.specs.WellFormed.{types_after};
 ghost use Rattle.c_cursor.specs.Gives.{Gives};
@@ -24,22 +24,13 @@ use std::alloc::Global;
 /// The deepest tree that is read.
 const DEPTH: u16 = 400;
 
-/// Whether a keyword is not supported.
-fn is_unsupported(keyword: Keyword) -> bool
-    ensures { result ≡ is_unsupported keyword }
-{
-    matches!(keyword, Keyword::LeftOut(_))
-}
-
 /// The first keyword that is not supported, with its place.
 fn first_unsupported(tokens: &[Token]) -> Option<(Keyword, u32)>
     ensures { result ≡ first_unsupported tokens.now }
 {
     for token in tokens {
-        if let TokenKind::Keyword(keyword) = token.kind {
-            if is_unsupported(keyword) {
-                return Some((keyword, token.from));
-            }
+        if let TokenKind::Keyword(Keyword::LeftOut(word)) = token.kind {
+            return Some((Keyword::LeftOut(word), token.from));
         }
     }
     None

@@ -11,7 +11,7 @@ ghost use Rattle.c_grammar.specs.StatementReading.{return_in, statement_at, stat
 use crate::conditions::expression_before;
 use crate::declarations::declaration;
 use crate::iteration::{do_loop, for_loop, while_loop};
-use crate::means::{Means, Next, Read};
+use crate::means::{Means, Next, Read, all_by};
 use crate::openings::{Opening, opening_of};
 use crate::selection::selection;
 use crate::switches::switch;
@@ -63,19 +63,7 @@ fn block_items(by: Means, tokens: &mut Cursor) -> Read<List<BlockItem>>
     ensures { Reads (λ all. map block_item_of all) result tokens.new
         (chain (block_item_step (below_at by.entry.types.now by.entry.inside (statement_at by.entry.types.now by.entry.inside))) (length tokens.old + 1) [] 0 tokens.old) }
 {
-    let mut all = List::new(by.alloc);
-    let mut d = 0;
-    let mut rounds = tokens.len() as u64 + 1;
-    'more: while rounds > 0 {
-        let (more, e, on) = next_block_item(by, all, d, tokens)?;
-        all = more;
-        d = e;
-        rounds -= 1;
-        if !on {
-            return Ok((all, d));
-        }
-    }
-    Err(tokens.stop())
+    all_by!(next_block_item, by, tokens)
 }
 
 /// A block, from after `{` on, with the byte of its `}`.

@@ -6,7 +6,7 @@ ghost use Rattle.c_cursor.specs.Gives.{Gives, Reads, Steps};
 ghost use Rattle.c_grammar.specs.Reading.{chain};
 ghost use Rattle.c_grammar.specs.StatementReading.{below_at, label_step, statement_at};
 
-use crate::means::{Means, Next, Read};
+use crate::means::{Means, Next, Read, all_by};
 use c_ast::Label;
 use c_cursor::Cursor;
 use c_expressions::{Level, expression_inside};
@@ -50,17 +50,5 @@ pub fn labels(by: Means, tokens: &mut Cursor) -> Read<List<Label>>
     ensures { Reads (λ all. map label_of all) result tokens.new
         (chain (label_step (below_at by.entry.types.now by.entry.inside (statement_at by.entry.types.now by.entry.inside))) (length tokens.old + 1) [] 0 tokens.old) }
 {
-    let mut all = List::new(by.alloc);
-    let mut d = 0;
-    let mut rounds = tokens.len() as u64 + 1;
-    'more: while rounds > 0 {
-        let (more, e, on) = next_label(by, all, d, tokens)?;
-        all = more;
-        d = e;
-        rounds -= 1;
-        if !on {
-            return Ok((all, d));
-        }
-    }
-    Err(tokens.stop())
+    all_by!(next_label, by, tokens)
 }

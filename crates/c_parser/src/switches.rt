@@ -8,7 +8,7 @@ ghost use Rattle.c_grammar.specs.StatementReading.{below_at, labelled_in, statem
 
 use crate::conditions::condition;
 use crate::declarations::declaration;
-use crate::means::{Means, Next, Read};
+use crate::means::{Means, Next, Read, all_by};
 use crate::statements::statement_inside;
 use crate::switch_labels::labels;
 use c_ast::{At, Statement, SwitchItem};
@@ -70,19 +70,7 @@ fn switch_items(by: Means, tokens: &mut Cursor) -> Read<List<SwitchItem>>
     ensures { Reads (λ all. map switch_item_of all) result tokens.new
         (chain (switch_item_step (below_at by.entry.types.now by.entry.inside (statement_at by.entry.types.now by.entry.inside))) (length tokens.old + 1) [] 0 tokens.old) }
 {
-    let mut all = List::new(by.alloc);
-    let mut d = 0;
-    let mut rounds = tokens.len() as u64 + 1;
-    'more: while rounds > 0 {
-        let (more, e, on) = next_switch_item(by, all, d, tokens)?;
-        all = more;
-        d = e;
-        rounds -= 1;
-        if !on {
-            return Ok((all, d));
-        }
-    }
-    Err(tokens.stop())
+    all_by!(next_switch_item, by, tokens)
 }
 
 /// What stands after `switch`.

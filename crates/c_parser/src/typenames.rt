@@ -35,16 +35,6 @@ fn has_typedef(specifiers: &[Specifier]) -> bool
     false
 }
 
-/// Adds the name of a declarator.
-fn add_name(alloc: Global, types: &mut Typenames, declarator: &Declarator) -> Result<(), NoMemory>
-    ensures { OnOk result (types.new ≡ types.old ++ declared_name (declarator_of declarator.now)) }
-{
-    match name_in(declarator) {
-        Some(name) => types.add(alloc, name),
-        None => Ok(()),
-    }
-}
-
 /// Adds the names of all declarators.
 fn add_names(
     alloc: Global,
@@ -54,7 +44,9 @@ fn add_names(
     ensures { OnOk result (types.new ≡ types.old ++ declared_names (map init_declarator_of declarators.now)) }
 {
     for one in declarators {
-        add_name(alloc, types, &one.declarator)?;
+        if let Some(name) = name_in(&one.declarator) {
+            types.add(alloc, name)?;
+        }
     }
     Ok(())
 }
