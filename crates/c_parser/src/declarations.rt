@@ -9,21 +9,11 @@ ghost use Rattle.c_grammar.specs.StatementReading.{more_init_declarators, one_in
 
 use crate::declarators::{named, valued};
 use crate::means::{Means, Next, Read};
-use c_ast::{At, Declaration, Declarator, InitDeclarator};
+use c_ast::{Declaration, Declarator, InitDeclarator};
 use c_cursor::Cursor;
 use c_expressions::specifiers_inside;
 use c_tokens::Punctuator;
 use lay_base::{Boxed, List, NoMemory, add};
-
-/// A declarator with its name and its initializer, if there is one.
-#[tactic(auto, unfolding(c_grammar::specs::StatementReading::one_in))]
-fn init_declarator(by: Means, comma: Option<At>, tokens: &mut Cursor) -> Read<InitDeclarator>
-    ensures { Reads init_declarator_of result tokens.new (one_in ((at by.entry.types.now by.entry.inside).declarator) (initial_at by.entry.types.now by.entry.inside) comma tokens.old) }
-{
-    let (declarator, d) = named(by, tokens)?;
-    let (one, d) = valued(by, comma, declarator, d, tokens)?;
-    Ok((one, d))
-}
 
 /// A list with one declarator more.
 fn with_declarator(
@@ -49,7 +39,8 @@ fn next_declarator(
         (init_declarator_step ((at by.entry.types.now by.entry.inside).declarator) (initial_at by.entry.types.now by.entry.inside) (map init_declarator_of all) d tokens.old) }
 {
     let comma = tokens.comma_before(&all)?;
-    let (one, e) = init_declarator(by, comma, tokens)?;
+    let (declarator, e) = named(by, tokens)?;
+    let (one, e) = valued(by, comma, declarator, e, tokens)?;
     let all = with_declarator(all, one)?;
     Ok((all, d.max(e), tokens.peek(Punctuator::Comma)))
 }
@@ -96,8 +87,7 @@ pub fn declarators_after(
         (declarators_after ((at by.entry.types.now by.entry.inside).declarator) (initial_at by.entry.types.now by.entry.inside) (declarator_of declarator) d tokens.old) }
 {
     let (first, d) = valued(by, None, declarator, d, tokens)?;
-    let (all, d) = more_declarators(by, first, d, tokens)?;
-    Ok((all, d))
+    more_declarators(by, first, d, tokens)
 }
 
 /// The declarators of a declaration; where it need not have one, there may be none.
@@ -110,8 +100,7 @@ fn declarators(by: Means, full: bool, tokens: &mut Cursor) -> Read<List<InitDecl
         return Ok((List::new(by.alloc), 0));
     }
     let (declarator, d) = named(by, tokens)?;
-    let (all, d) = declarators_after(by, declarator, d, tokens)?;
-    Ok((all, d))
+    declarators_after(by, declarator, d, tokens)
 }
 
 /// A declaration of parts of a depth of at most `inside`. Where it is to be full, it has a

@@ -20,13 +20,8 @@ pub fn named(by: Means, tokens: &mut Cursor) -> Read<Boxed<Declarator>>
 {
     let (declarator, d) = declarator_inside(by.alloc, by.types, by.inside, tokens)?;
     match declarator {
-        Some(declarator) => {
-            if !has_name(declarator.get()) {
-                return Err(tokens.stop());
-            }
-            Ok((declarator, d))
-        }
-        None => Err(tokens.stop()),
+        Some(declarator) if has_name(declarator.get()) => Ok((declarator, d)),
+        _ => Err(tokens.stop()),
     }
 }
 
