@@ -68,10 +68,7 @@ fn initializer(by: Means, tokens: &mut Cursor) -> Read<Boxed<Expression>>
     ensures { Reads expression_of result tokens.new (initial_in by.entry.inside ((at by.entry.types.now by.entry.inside).assignment) (initial_at by.entry.types.now by.entry.inside) tokens.old) }
 {
     match tokens.accept(Punctuator::OpenBrace) {
-        Some(left) => {
-            let (whole, d) = braces(by, left, tokens)?;
-            Ok((whole, d))
-        }
+        Some(left) => braces(by, left, tokens),
         None => {
             let (value, d) = expression_inside(
                 by.alloc,

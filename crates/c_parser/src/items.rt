@@ -77,14 +77,8 @@ fn declared(by: Means, specifiers: List<Specifier>, d: u32, tokens: &mut Cursor)
     let (declarator, e) = named(by, tokens)?;
     let d = d.max(e);
     match tokens.accept(Punctuator::OpenBrace) {
-        Some(left) => {
-            let (whole, d) = function(by, specifiers, declarator, d, left, tokens)?;
-            Ok((whole, d))
-        }
-        None => {
-            let (whole, d) = rest_of_declaration(by, specifiers, declarator, d, tokens)?;
-            Ok((whole, d))
-        }
+        Some(left) => function(by, specifiers, declarator, d, left, tokens),
+        None => rest_of_declaration(by, specifiers, declarator, d, tokens),
     }
 }
 
@@ -104,9 +98,6 @@ pub fn item(by: Means, tokens: &mut Cursor) -> Read<Item>
             };
             Ok((Item::Declaration(whole), d))
         }
-        None => {
-            let (whole, d) = declared(by, specifiers, d, tokens)?;
-            Ok((whole, d))
-        }
+        None => declared(by, specifiers, d, tokens),
     }
 }

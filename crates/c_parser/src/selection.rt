@@ -52,6 +52,5 @@ pub fn selection(by: Means, place: At, tokens: &mut Cursor) -> Read<Statement>
     let (test, d) = condition(by, tokens)?;
     let (one, e) = statement_inside(by, tokens)?;
     let one = boxed(by.alloc, one)?;
-    let (whole, d) = branches(by, place, test, one, d.max(e), tokens)?;
-    Ok((whole, d))
+    branches(by, place, test, one, d.max(e), tokens)
 }

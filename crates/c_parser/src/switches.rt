@@ -4,7 +4,7 @@ ghost use Rattle.std.specs.Prelude.{◌+◌, [], length, map};
 ghost use Rattle.c_ast.specs.Views.{statement_of, switch_item_of};
 ghost use Rattle.c_cursor.specs.Gives.{Gives, Reads, Steps};
 ghost use Rattle.c_grammar.specs.Reading.{chain};
-ghost use Rattle.c_grammar.specs.StatementReading.{below_at, labelled_in, statement_at, switch_in, switch_item_in, switch_item_step};
+ghost use Rattle.c_grammar.specs.StatementReading.{below_at, statement_at, switch_in, switch_item_in, switch_item_step};
 
 use crate::conditions::condition;
 use crate::declarations::declaration;
@@ -16,20 +16,9 @@ use c_cursor::{Cursor, deeper_than};
 use c_tokens::Punctuator;
 use lay_base::{List, add};
 
-/// A statement with the labels before it.
-#[cycle(statement)]
-#[tactic(auto, unfolding(c_grammar::specs::StatementReading::labelled_in))]
-fn labelled(by: Means, tokens: &mut Cursor) -> Read<SwitchItem>
-    ensures { Reads switch_item_of result tokens.new (labelled_in (below_at by.entry.types.now by.entry.inside (statement_at by.entry.types.now by.entry.inside)) tokens.old) }
-{
-    let (labels, d) = labels(by, tokens)?;
-    let (statement, e) = statement_inside(by, tokens)?;
-    Ok((SwitchItem::Labelled(labels, statement), d.max(e)))
-}
-
 /// An item of a switch's body.
 #[cycle(statement)]
-#[tactic(auto, unfolding(c_grammar::specs::StatementReading::switch_item_in))]
+#[tactic(auto, unfolding(c_grammar::specs::StatementReading::switch_item_in, c_grammar::specs::StatementReading::labelled_in))]
 fn switch_item(by: Means, tokens: &mut Cursor) -> Read<SwitchItem>
     ensures { Reads switch_item_of result tokens.new (switch_item_in (below_at by.entry.types.now by.entry.inside (statement_at by.entry.types.now by.entry.inside)) tokens.old) }
 {
@@ -37,8 +26,9 @@ fn switch_item(by: Means, tokens: &mut Cursor) -> Read<SwitchItem>
         let (declaration, d) = declaration(by, true, tokens)?;
         Ok((SwitchItem::Local(declaration), d))
     } else {
-        let (item, d) = labelled(by, tokens)?;
-        Ok((item, d))
+        let (labels, d) = labels(by, tokens)?;
+        let (statement, e) = statement_inside(by, tokens)?;
+        Ok((SwitchItem::Labelled(labels, statement), d.max(e)))
     }
 }
 

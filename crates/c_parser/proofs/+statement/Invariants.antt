@@ -27,20 +27,17 @@ decreases-statements::block l = measure l.by.inside 4
 abbrev pub decreases-statements::block_statement : goal.decreases-statements::block_statement
 decreases-statements::block_statement l = measure l.by.inside 5
 
-abbrev pub decreases-switches::labelled : goal.decreases-switches::labelled
-decreases-switches::labelled l = measure l.by.inside 1
-
 abbrev pub decreases-switches::switch_item : goal.decreases-switches::switch_item
-decreases-switches::switch_item l = measure l.by.inside 2
+decreases-switches::switch_item l = measure l.by.inside 1
 
 abbrev pub decreases-switches::next_switch_item : goal.decreases-switches::next_switch_item
-decreases-switches::next_switch_item l = measure l.by.inside 3
+decreases-switches::next_switch_item l = measure l.by.inside 2
 
 abbrev pub decreases-switches::switch_items : goal.decreases-switches::switch_items
-decreases-switches::switch_items l = measure l.by.inside 4
+decreases-switches::switch_items l = measure l.by.inside 3
 
 abbrev pub decreases-switches::switch : goal.decreases-switches::switch
-decreases-switches::switch l = measure l.by.inside 5
+decreases-switches::switch l = measure l.by.inside 4
 
 abbrev pub decreases-selection::branches : goal.decreases-selection::branches
 decreases-selection::branches l = measure l.by.inside 1
