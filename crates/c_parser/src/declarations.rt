@@ -8,7 +8,7 @@ ghost use Rattle.c_grammar.specs.StatementReading.{declaration_in, declarators_a
 ghost use Rattle.c_grammar.specs.StatementReading.{more_init_declarators, one_in};
 
 use crate::declarators::{named, valued};
-use crate::means::{Means, Next, Read};
+use crate::means::{Means, Next, Read, all_by};
 use c_ast::{Declaration, Declarator, InitDeclarator};
 use c_cursor::Cursor;
 use c_expressions::specifiers_inside;
@@ -56,23 +56,12 @@ fn more_declarators(
     ensures { Reads (λ all. map init_declarator_of all) result tokens.new
         (more_init_declarators ((at by.entry.types.now by.entry.inside).declarator) (initial_at by.entry.types.now by.entry.inside) (init_declarator_of first) depth tokens.old) }
 {
-    let mut all = List::new(by.alloc);
-    add(&mut all, first)?;
+    let mut one = List::new(by.alloc);
+    add(&mut one, first)?;
     if !tokens.peek(Punctuator::Comma) {
-        return Ok((all, depth));
+        return Ok((one, depth));
     }
-    let mut d = depth;
-    let mut rounds = tokens.len() as u64 + 1;
-    'more: while rounds > 0 {
-        let (more, e, on) = next_declarator(by, all, d, tokens)?;
-        all = more;
-        d = e;
-        rounds -= 1;
-        if !on {
-            return Ok((all, d));
-        }
-    }
-    Err(tokens.stop())
+    all_by!(next_declarator, by, tokens, one, depth)
 }
 
 /// All declarators, after the first, which is read.

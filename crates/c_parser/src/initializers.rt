@@ -42,7 +42,7 @@ fn initializers(by: Means, tokens: &mut Cursor) -> Read<List<Argument>>
     ensures { Reads (λ all. map argument_of all) result tokens.new
         (chain (initial_step (initial_at by.entry.types.now by.entry.inside)) (length tokens.old + 1) [] 0 tokens.old) }
 {
-    all_by!(next_initializer, by, tokens)
+    all_by!(next_initializer, by, tokens, List::new(by.alloc), 0)
 }
 
 /// Initializers in braces, from after `{` on.

@@ -17,11 +17,11 @@ pub type Read<T> = Result<(T, u32), Failure>;
 /// A list with one more, its depth, and whether to go on.
 pub type Next<T> = Result<(T, u32, bool), Failure>;
 
-/// The list that a reader of one more makes, until it says not to go on.
+/// The list that a reader of one more makes from the first items, until it says not to go on.
 macro_rules! all_by {
-    ($next:ident, $by:ident, $tokens:ident) => {{
-        let mut all = List::new($by.alloc);
-        let mut d = 0;
+    ($next:ident, $by:ident, $tokens:ident, $first:expr, $depth:expr) => {{
+        let mut all = $first;
+        let mut d = $depth;
         let mut rounds = $tokens.len() as u64 + 1;
         'more: while rounds > 0 {
             let (more, e, on) = $next($by, all, d, $tokens)?;

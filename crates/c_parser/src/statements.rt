@@ -63,7 +63,7 @@ fn block_items(by: Means, tokens: &mut Cursor) -> Read<List<BlockItem>>
     ensures { Reads (λ all. map block_item_of all) result tokens.new
         (chain (block_item_step (below_at by.entry.types.now by.entry.inside (statement_at by.entry.types.now by.entry.inside))) (length tokens.old + 1) [] 0 tokens.old) }
 {
-    all_by!(next_block_item, by, tokens)
+    all_by!(next_block_item, by, tokens, List::new(by.alloc), 0)
 }
 
 /// A block, from after `{` on, with the byte of its `}`.

@@ -50,5 +50,5 @@ pub fn labels(by: Means, tokens: &mut Cursor) -> Read<List<Label>>
     ensures { Reads (λ all. map label_of all) result tokens.new
         (chain (label_step (below_at by.entry.types.now by.entry.inside (statement_at by.entry.types.now by.entry.inside))) (length tokens.old + 1) [] 0 tokens.old) }
 {
-    all_by!(next_label, by, tokens)
+    all_by!(next_label, by, tokens, List::new(by.alloc), 0)
 }

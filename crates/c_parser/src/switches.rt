@@ -60,7 +60,7 @@ fn switch_items(by: Means, tokens: &mut Cursor) -> Read<List<SwitchItem>>
     ensures { Reads (λ all. map switch_item_of all) result tokens.new
         (chain (switch_item_step (below_at by.entry.types.now by.entry.inside (statement_at by.entry.types.now by.entry.inside))) (length tokens.old + 1) [] 0 tokens.old) }
 {
-    all_by!(next_switch_item, by, tokens)
+    all_by!(next_switch_item, by, tokens, List::new(by.alloc), 0)
 }
 
 /// What stands after `switch`.
