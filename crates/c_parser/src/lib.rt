@@ -17,7 +17,6 @@ mod items;
 mod iteration;
 mod laws;
 mod means;
-mod openings;
 mod parsing;
 mod selection;
 mod statements;

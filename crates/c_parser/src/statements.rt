@@ -12,13 +12,12 @@ use crate::conditions::expression_before;
 use crate::declarations::declaration;
 use crate::iteration::{do_loop, for_loop, while_loop};
 use crate::means::{Means, Next, Read, all_by};
-use crate::openings::{Opening, opening_of};
 use crate::selection::selection;
 use crate::switches::switch;
 use c_ast::{At, BlockItem, Statement};
 use c_cursor::{Cursor, deeper_than};
-use c_tokens::Punctuator;
-use lay_base::{List, add};
+use c_tokens::{Punctuator, TokenKind};
+use lay_base::{Keyword, List, add};
 
 /// An item of a block.
 #[cycle(statement)]
@@ -131,24 +130,28 @@ fn block_statement(by: Means, left: At, tokens: &mut Cursor) -> Read<Statement>
 
 /// A statement by its first token.
 #[cycle(statement)]
-#[tactic(auto, using(crate::proofs::OpeningStatements::statement_by_opening), unfolding(c_grammar::specs::StatementReading::statement_in))]
+#[tactic(auto, unfolding(c_grammar::specs::StatementReading::statement_in))]
 fn statement(by: Means, tokens: &mut Cursor) -> Read<Statement>
     ensures { Reads statement_of result tokens.new (statement_in by.entry.inside (below_at by.entry.types.now by.entry.inside (statement_at by.entry.types.now by.entry.inside)) tokens.old) }
 {
     let Some(kind) = tokens.front() else {
         return Err(tokens.stop());
     };
-    match opening_of(kind) {
-        Opening::If => selection(by, tokens.advance(), tokens),
-        Opening::While => while_loop(by, tokens.advance(), tokens),
-        Opening::Do => do_loop(by, tokens.advance(), tokens),
-        Opening::For => for_loop(by, tokens.advance(), tokens),
-        Opening::Switch => switch(by, tokens.advance(), tokens),
-        Opening::Break => break_statement(tokens.advance(), tokens),
-        Opening::Continue => continue_statement(tokens.advance(), tokens),
-        Opening::Return => return_statement(by, tokens.advance(), tokens),
-        Opening::Block => block_statement(by, tokens.advance(), tokens),
-        Opening::Expression => expression_statement(by, tokens),
+    match kind {
+        TokenKind::Keyword(Keyword::If) => selection(by, tokens.advance(), tokens),
+        TokenKind::Keyword(Keyword::While) => while_loop(by, tokens.advance(), tokens),
+        TokenKind::Keyword(Keyword::Do) => do_loop(by, tokens.advance(), tokens),
+        TokenKind::Keyword(Keyword::For) => for_loop(by, tokens.advance(), tokens),
+        TokenKind::Keyword(Keyword::Switch) => switch(by, tokens.advance(), tokens),
+        TokenKind::Keyword(Keyword::Break) => break_statement(tokens.advance(), tokens),
+        TokenKind::Keyword(Keyword::Continue) => continue_statement(tokens.advance(), tokens),
+        TokenKind::Keyword(Keyword::Return) => return_statement(by, tokens.advance(), tokens),
+        TokenKind::Punctuator(Punctuator::OpenBrace) => block_statement(
+            by,
+            tokens.advance(),
+            tokens,
+        ),
+        _ => expression_statement(by, tokens),
     }
 }
 
