@@ -1,31 +1,26 @@
 //! `if` (C99 6.8.4.1).
 
-ghost use Rattle.c_ast.specs.Views.{expression_of, statement_of};
+ghost use Rattle.c_ast.specs.Views.{statement_of};
 ghost use Rattle.c_cursor.specs.Gives.{Reads};
-ghost use Rattle.c_grammar.specs.Reading.{after};
-ghost use Rattle.c_grammar.specs.StatementReading.{below_at, else_after, if_in, is_else, statement_at};
+ghost use Rattle.c_grammar.specs.StatementReading.{below_at, if_in, statement_at};
 
 use crate::conditions::condition;
 use crate::means::{Means, Read};
 use crate::statements::statement_inside;
-use c_ast::{At, Expression, Statement};
+use c_ast::{At, Statement};
 use c_cursor::{Cursor, deeper_than};
-use lay_base::{Boxed, Keyword, boxed};
+use lay_base::{Keyword, boxed};
 
-/// What stands after the first branch.
+/// What stands after `if`.
 #[cycle(statement)]
-fn branches(
-    by: Means,
-    place: At,
-    test: (At, Boxed<Expression>, At),
-    one: Boxed<Statement>,
-    d: u32,
-    tokens: &mut Cursor,
-) -> Read<Statement>
-    ensures { Reads statement_of result tokens.new (else_after by.entry.inside (below_at by.entry.types.now by.entry.inside (statement_at by.entry.types.now by.entry.inside)) place
-        (test.0, expression_of test.1, test.2) (statement_of one) d tokens.old (after is_else tokens.old)) }
+#[tactic(auto, unfolding(c_grammar::specs::StatementReading::if_in))]
+pub fn selection(by: Means, place: At, tokens: &mut Cursor) -> Read<Statement>
+    ensures { Reads statement_of result tokens.new (if_in by.entry.inside (below_at by.entry.types.now by.entry.inside (statement_at by.entry.types.now by.entry.inside)) place tokens.old) }
 {
-    let (left, value, right) = test;
+    let ((left, value, right), d) = condition(by, tokens)?;
+    let (one, e) = statement_inside(by, tokens)?;
+    let one = boxed(by.alloc, one)?;
+    let d = d.max(e);
     match tokens.accept_keyword(Keyword::Else) {
         Some(otherwise) => {
             let (other, e) = statement_inside(by, tokens)?;
@@ -41,16 +36,4 @@ fn branches(
             Ok((Statement::If(place, left, value, right, one), d))
         }
     }
-}
-
-/// What stands after `if`.
-#[cycle(statement)]
-#[tactic(auto, unfolding(c_grammar::specs::StatementReading::if_in))]
-pub fn selection(by: Means, place: At, tokens: &mut Cursor) -> Read<Statement>
-    ensures { Reads statement_of result tokens.new (if_in by.entry.inside (below_at by.entry.types.now by.entry.inside (statement_at by.entry.types.now by.entry.inside)) place tokens.old) }
-{
-    let (test, d) = condition(by, tokens)?;
-    let (one, e) = statement_inside(by, tokens)?;
-    let one = boxed(by.alloc, one)?;
-    branches(by, place, test, one, d.max(e), tokens)
 }

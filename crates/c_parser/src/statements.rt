@@ -1,11 +1,10 @@
 //! Blocks, and statements by their first token (C99 6.8).
 
 ghost use Rattle.std.specs.Prelude.{◌+◌, [], length, map};
-ghost use Rattle.c_ast.specs.Trees;
 ghost use Rattle.c_ast.specs.Views.{block_item_of, block_items_of, statement_of};
 ghost use Rattle.c_cursor.specs.Gives.{Gives, Reads, Steps};
 ghost use Rattle.c_grammar.specs.Reading.{chain};
-ghost use Rattle.c_grammar.specs.StatementReading.{below_at, block_in, block_item_in, block_item_step, block_statement_in, evaluate_in, jump_in};
+ghost use Rattle.c_grammar.specs.StatementReading.{below_at, block_in, block_item_in, block_item_step, block_statement_in, evaluate_in};
 ghost use Rattle.c_grammar.specs.StatementReading.{return_in, statement_at, statement_in};
 
 use crate::conditions::expression_before;
@@ -77,24 +76,6 @@ pub fn block(by: Means, tokens: &mut Cursor) -> Read<(List<BlockItem>, At)>
     Ok(((items, right), d))
 }
 
-/// `;` after `break`.
-#[tactic(auto, unfolding(c_grammar::specs::StatementReading::jump_in))]
-fn break_statement(place: At, tokens: &mut Cursor) -> Read<Statement>
-    ensures { Reads statement_of result tokens.new (jump_in (Trees.break place) tokens.old) }
-{
-    let semicolon = tokens.expect(Punctuator::Semicolon)?;
-    Ok((Statement::Break(place, semicolon), 1))
-}
-
-/// `;` after `continue`.
-#[tactic(auto, unfolding(c_grammar::specs::StatementReading::jump_in))]
-fn continue_statement(place: At, tokens: &mut Cursor) -> Read<Statement>
-    ensures { Reads statement_of result tokens.new (jump_in (Trees.continue place) tokens.old) }
-{
-    let semicolon = tokens.expect(Punctuator::Semicolon)?;
-    Ok((Statement::Continue(place, semicolon), 1))
-}
-
 /// What stands after `return`.
 #[tactic(auto, unfolding(c_grammar::specs::StatementReading::return_in))]
 fn return_statement(by: Means, place: At, tokens: &mut Cursor) -> Read<Statement>
@@ -130,7 +111,7 @@ fn block_statement(by: Means, left: At, tokens: &mut Cursor) -> Read<Statement>
 
 /// A statement by its first token.
 #[cycle(statement)]
-#[tactic(auto, unfolding(c_grammar::specs::StatementReading::statement_in))]
+#[tactic(auto, unfolding(c_grammar::specs::StatementReading::statement_in, c_grammar::specs::StatementReading::jump_in))]
 fn statement(by: Means, tokens: &mut Cursor) -> Read<Statement>
     ensures { Reads statement_of result tokens.new (statement_in by.entry.inside (below_at by.entry.types.now by.entry.inside (statement_at by.entry.types.now by.entry.inside)) tokens.old) }
 {
@@ -143,8 +124,16 @@ fn statement(by: Means, tokens: &mut Cursor) -> Read<Statement>
         TokenKind::Keyword(Keyword::Do) => do_loop(by, tokens.advance(), tokens),
         TokenKind::Keyword(Keyword::For) => for_loop(by, tokens.advance(), tokens),
         TokenKind::Keyword(Keyword::Switch) => switch(by, tokens.advance(), tokens),
-        TokenKind::Keyword(Keyword::Break) => break_statement(tokens.advance(), tokens),
-        TokenKind::Keyword(Keyword::Continue) => continue_statement(tokens.advance(), tokens),
+        TokenKind::Keyword(Keyword::Break) => {
+            let place = tokens.advance();
+            let semicolon = tokens.expect(Punctuator::Semicolon)?;
+            Ok((Statement::Break(place, semicolon), 1))
+        }
+        TokenKind::Keyword(Keyword::Continue) => {
+            let place = tokens.advance();
+            let semicolon = tokens.expect(Punctuator::Semicolon)?;
+            Ok((Statement::Continue(place, semicolon), 1))
+        }
         TokenKind::Keyword(Keyword::Return) => return_statement(by, tokens.advance(), tokens),
         TokenKind::Punctuator(Punctuator::OpenBrace) => block_statement(
             by,

@@ -39,11 +39,8 @@ decreases-switches::switch_items l = measure l.by.inside 3
 abbrev pub decreases-switches::switch : goal.decreases-switches::switch
 decreases-switches::switch l = measure l.by.inside 4
 
-abbrev pub decreases-selection::branches : goal.decreases-selection::branches
-decreases-selection::branches l = measure l.by.inside 1
-
 abbrev pub decreases-selection::selection : goal.decreases-selection::selection
-decreases-selection::selection l = measure l.by.inside 2
+decreases-selection::selection l = measure l.by.inside 1
 
 abbrev pub decreases-iteration::while_loop : goal.decreases-iteration::while_loop
 decreases-iteration::while_loop l = measure l.by.inside 1
