@@ -5,7 +5,7 @@ ghost use Rattle.c_ast.specs.Views.{declaration_of, declarator_of, init_declarat
 ghost use Rattle.c_cursor.specs.Gives.{Gives, Reads, Steps};
 ghost use Rattle.c_grammar.specs.Reading.{at};
 ghost use Rattle.c_grammar.specs.StatementReading.{declaration_in, declarators_after, declarators_if_any, init_declarator_step, initial_at};
-ghost use Rattle.c_grammar.specs.StatementReading.{more_init_declarators, one_in};
+ghost use Rattle.c_grammar.specs.StatementReading.{more_init_declarators};
 
 use crate::declarators::{named, valued};
 use crate::means::{Means, Next, Read, all_by};
