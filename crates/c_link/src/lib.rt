@@ -9,6 +9,7 @@
 
 mod clashes;
 mod gap;
+mod held;
 mod initial_texts;
 mod limits;
 mod linked;
@@ -16,7 +17,6 @@ mod linking;
 mod main_function;
 mod missing;
 mod names;
-mod references;
 mod structures;
 mod tag_names;
 mod tree_uses;

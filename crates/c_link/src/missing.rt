@@ -8,7 +8,7 @@ ghost use Rattle.c_typed.specs.Programs.{data_of, program_data};
 ghost use Rattle.c_link.specs.TreeUses.Uses.{reference_of};
 ghost use Rattle.c_numbers.specs.KeyNumbers.Keys.{is_among};
 
-use crate::references::all_references;
+use crate::held::held_by;
 use crate::tree_uses::Reference;
 use crate::troubles::{Trouble, earliest};
 use c_joining::{copy_of_name, next};
@@ -159,8 +159,8 @@ fn all_missing(alloc: Global, p: &Typed) -> Result<List<Trouble>, NoMemory>
     if are_objects_defined(p.objects.as_slice()) && are_functions_defined(p.functions.as_slice()) {
         return Ok(missing);
     }
-    let references = all_references(alloc, p)?;
-    let used = keys_of(alloc, references.as_slice())?;
+    let held = held_by(alloc, p)?;
+    let used = keys_of(alloc, held.references.as_slice())?;
     add_objects(alloc, &used, p.objects.as_slice(), &mut missing)?;
     add_functions(alloc, &used, p.functions.as_slice(), &mut missing)?;
     Ok(missing)

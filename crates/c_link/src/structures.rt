@@ -1,16 +1,16 @@
 //! Structures that no file completes, where a type of the program holds them (C99 6.2.5).
 
-ghost use Rattle.std.specs.Prelude.{◌≡◌, ◌++◌, [], IfOk, MatchOption, None, OnOk, flat_map, fold, map};
+ghost use Rattle.std.specs.Prelude.{◌≡◌, ◌++◌, [], IfOk, MatchOption, None, flat_map, fold, map};
 ghost use Rattle.c_link.specs.Gaps.{IsLeast, open_structures, structures_in, types_of_function, types_of_object};
 ghost use Rattle.c_link.specs.Missing.{have_none, least_among, least_in, lesser, lesser_at, lesser_if_any, lesser_of};
-ghost use Rattle.c_typed.specs.Programs.{data_of, program_data};
+ghost use Rattle.c_typed.specs.Programs.{program_data};
 ghost use Rattle.c_types.specs.Types.{field_types};
 ghost use Rattle.c_types.specs.Views.{field_of, records_of, type_of};
 
-use crate::tree_uses::statement_types;
-use c_typed::{Function, Local, Object, Statement, Typed};
+use crate::held::held_by;
+use c_typed::Typed;
 use c_types::{Field, Record, Ty};
-use lay_base::{List, NoMemory, add, push};
+use lay_base::{NoMemory, push};
 use std::alloc::Global;
 
 fn lesser_of(best: Option<u32>, n: u32) -> Option<u32>
@@ -66,67 +66,6 @@ fn lesser_if_any(best: Option<u32>, other: Option<u32>) -> Option<u32>
         None => best,
         Some(n) => lesser_of(best, n),
     }
-}
-
-fn add_locals(all: &mut List<u32>, locals: &[Local]) -> Result<(), NoMemory>
-    ensures { OnOk result (all.new ≡ all.old ++ map (λ l. l.ty) locals.now) }
-{
-    for l in locals {
-        add(all, l.ty)?;
-    }
-    Ok(())
-}
-
-fn add_object(all: &mut List<u32>, o: &Object) -> Result<(), NoMemory>
-    ensures { OnOk result (all.new ≡ all.old ++ types_of_object o.now) }
-{
-    if o.initial.is_some() {
-        add(all, o.ty)
-    } else {
-        Ok(())
-    }
-}
-
-fn add_objects(all: &mut List<u32>, objects: &[Object]) -> Result<(), NoMemory>
-    ensures { OnOk result (all.new ≡ all.old ++ flat_map types_of_object objects.now) }
-{
-    for o in objects {
-        add_object(all, o)?;
-    }
-    Ok(())
-}
-
-fn add_function(all: &mut List<u32>, f: &Function) -> Result<(), NoMemory>
-    ensures { OnOk result (all.new ≡ all.old ++ types_of_function (data_of f.now)) }
-{
-    match &f.body {
-        None => Ok(()),
-        Some(body) => {
-            add(all, f.ty)?;
-            add_locals(all, f.parameters.as_slice())?;
-            add_locals(all, f.locals.as_slice())?;
-            statement_types(all, body)
-        }
-    }
-}
-
-fn add_functions(all: &mut List<u32>, functions: &[Function]) -> Result<(), NoMemory>
-    ensures { OnOk result (all.new ≡ all.old ++ flat_map types_of_function (map data_of functions.now)) }
-{
-    for f in functions {
-        add_function(all, f)?;
-    }
-    Ok(())
-}
-
-/// The numbers of the types of what is defined, and of those at the nodes of bodies.
-fn held_numbers(alloc: Global, p: &Typed) -> Result<List<u32>, NoMemory>
-    ensures { IfOk result (λ all. all ≡ flat_map types_of_object (program_data p.now).objects ++ flat_map types_of_function (program_data p.now).functions) }
-{
-    let mut all = List::new(alloc);
-    add_objects(&mut all, p.objects.as_slice())?;
-    add_functions(&mut all, p.functions.as_slice())?;
-    Ok(all)
 }
 
 #[tactic(auto, using(crate::proofs::OpenStructures::least_append))]
@@ -194,8 +133,8 @@ fn least_in_held(
     if have_none(leasts) {
         return Ok(best);
     }
-    let numbers = held_numbers(alloc, p)?;
-    Ok(least_in_numbers(best, leasts, numbers.as_slice()))
+    let held = held_by(alloc, p)?;
+    Ok(least_in_numbers(best, leasts, held.types.as_slice()))
 }
 
 /// The least number of a structure that no file completes, where a type of the program holds one.

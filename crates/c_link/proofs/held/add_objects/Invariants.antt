@@ -3,7 +3,7 @@ use Rattle.std.specs.Prelude.{flat_map}
 use Rattle.c_link.specs.TreeUses.Uses.{reference_of}
 use Rattle.c_joining.specs.Joining.{if_any}
 use Rattle.c_link.specs.Gaps.{referred_by_value}
-use Rattle.c_link.proofs.references.add_objects.Given as goal
+use Rattle.c_link.proofs.held.add_objects.Given as goal
 
 abbrev pub invariant-loop-o : goal.invariant-loop-o
 invariant-loop-o l = map reference_of l.all ++ flat_map (λ o. flat_map referred_by_value (flat_map (λ all. all) (if_any o.initial))) (drop l.o-index l.objects)

@@ -1,8 +1,0 @@
-use Rattle.std.proofs.Common.{◌≡◌, ◌++◌, drop}
-use Rattle.std.specs.Prelude.{flat_map, map}
-use Rattle.c_typed.specs.Views.{part_of}
-use Rattle.c_typed.specs.Walk.{types_in_value}
-use Rattle.c_link.proofs.tree_uses.types_of_statements.parts_types.Given as goal
-
-abbrev pub invariant-loop-part : goal.invariant-loop-part
-invariant-loop-part l = l.found ++ flat_map (λ part. types_in_value part.value) (map part_of (drop l.part-index l.all)) ≡ l.fn.found ++ flat_map (λ part. types_in_value part.value) (map part_of l.all)
