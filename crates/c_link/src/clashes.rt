@@ -1,6 +1,7 @@
 //! Structures of one tag whose members differ (C99 6.2.7).
 
 ghost use Rattle.std.specs.Prelude.{◌≡◌, ◌++◌, [], IfOk, MatchOption, OnOk, map};
+ghost use Rattle.c_joining.specs.Joining.{all_tags};
 ghost use Rattle.c_link.specs.Clashes.{clashes, differing, same_field, same_fields, trouble_of};
 ghost use Rattle.c_link.specs.Gaps.{HasNone, IsEarliest, IsTagClash};
 ghost use Rattle.c_link.specs.Repeats.{told_if_any};
@@ -8,12 +9,12 @@ ghost use Rattle.c_typed.specs.Programs.{unit_data};
 ghost use Rattle.c_types.specs.Views.{field_of, record_of, records_of};
 ghost use Rattle.std.specs.Option.{option_copied, option_map};
 
-use crate::troubles::{Trouble, earliest};
-use c_joining::{all_records, all_tags, copy_of_name, number_of, put};
+use crate::troubles::{Trouble, add_trouble, earliest};
+use c_joining::{all_records, number_of, put};
 use c_numbers::KeyTable;
 use c_typed::Unit;
 use c_types::{Field, Record, same};
-use lay_base::{List, NoMemory, add};
+use lay_base::{List, NoMemory};
 use std::alloc::Global;
 
 fn same_field(f: &Field, g: &Field) -> bool
@@ -50,15 +51,7 @@ fn add_clash(
             if same_fields(r.fields.as_slice(), first.fields.as_slice()) {
                 return Ok(());
             }
-            let name = copy_of_name(alloc, &r.tag)?;
-            add(
-                troubles,
-                Trouble {
-                    name,
-                    place: r.place,
-                    first: first.place,
-                },
-            )
+            add_trouble(alloc, troubles, &r.tag, r.place, first.place)
         }
     }
 }
@@ -82,12 +75,16 @@ fn tag_troubles(alloc: Global, tags: &KeyTable, all: &[Record]) -> Result<List<T
     Ok(troubles)
 }
 
-/// The earliest trouble with a tag among the units, if there is one.
-pub fn tag_clash(alloc: Global, units: &[Unit]) -> Result<Option<Trouble>, NoMemory>
+/// The earliest trouble with a tag among the units, if there is one. The tags are those of the units.
+pub fn tag_clash(
+    alloc: Global,
+    tags: &KeyTable,
+    units: &[Unit],
+) -> Result<Option<Trouble>, NoMemory>
+    requires { tags.now ≡ all_tags (map unit_data units.now) }
     ensures { IfOk result (λ found. MatchOption found (HasNone (IsTagClash (map unit_data units.now))) (λ t. IsEarliest (IsTagClash (map unit_data units.now)) (trouble_of t))) }
 {
-    let tags = all_tags(alloc, units)?;
-    let all = all_records(alloc, &tags, units)?;
-    let troubles = tag_troubles(alloc, &tags, all.as_slice())?;
+    let all = all_records(alloc, tags, units)?;
+    let troubles = tag_troubles(alloc, tags, all.as_slice())?;
     Ok(earliest(troubles))
 }

@@ -9,13 +9,13 @@ ghost use Rattle.c_typed.specs.Programs.{program_data, unit_data};
 use crate::clashes::tag_clash;
 use crate::gap::Gap;
 use crate::limits::limit_past;
-use crate::linked::linked_names;
+use crate::linked::linked_in;
 use crate::main_function::has_main;
 use crate::missing::missing_name;
 use crate::names::{defined_twice, name_clash};
 use crate::structures::least_open;
 use crate::tag_names::tag_names;
-use c_joining::{copy_of_name, join};
+use c_joining::{all_tags, copy_of_name, join};
 use c_typed::{Typed, Unit};
 use c_types::records_are_complete;
 use lay_base::{List, Name, NoMemory};
@@ -25,10 +25,11 @@ use std::alloc::Global;
 fn agree(alloc: Global, units: &[Unit]) -> Result<(), Gap>
     ensures { AgreeGives (map unit_data units.now) result }
 {
-    let linked = linked_names(alloc, units)?;
-    if let Some(t) = tag_clash(alloc, units)? {
+    let tags = all_tags(alloc, units)?;
+    if let Some(t) = tag_clash(alloc, &tags, units)? {
         return Err(Gap::TagClash(t));
     }
+    let linked = linked_in(alloc, &tags, units)?;
     if let Some(t) = name_clash(alloc, units, linked.as_slice())? {
         return Err(Gap::NameClash(t));
     }

@@ -1,20 +1,20 @@
 //! Objects and functions that are used and not defined (C99 6.9).
 
-ghost use Rattle.std.specs.Prelude.{◌≡◌, ◌++◌, ◌∷◌, [], true, All, IfOk, IsTrue, MatchOption, OnOk, if◌then◌else◌, is_some, map};
+ghost use Rattle.std.specs.Prelude.{◌≡◌, ◌++◌, true, All, IfOk, IsTrue, MatchOption, OnOk, is_some, map};
 ghost use Rattle.c_link.specs.Clashes.{trouble_of};
 ghost use Rattle.c_link.specs.Gaps.{HasNone, IsEarliest, IsMissing, all_missing};
-ghost use Rattle.c_link.specs.Missing.{function_nowhere, functions_nowhere, key_of, keys_of, nowhere, object_nowhere, objects_nowhere};
+ghost use Rattle.c_link.specs.Missing.{functions_nowhere, key_of, keys_of, objects_nowhere};
 ghost use Rattle.c_typed.specs.Programs.{data_of, program_data};
 ghost use Rattle.c_link.specs.TreeUses.Uses.{reference_of};
 ghost use Rattle.c_numbers.specs.KeyNumbers.Keys.{is_among};
 
 use crate::held::held_by;
 use crate::tree_uses::Reference;
-use crate::troubles::{Trouble, earliest};
-use c_joining::{copy_of_name, next};
+use crate::troubles::{Trouble, add_trouble, earliest};
+use c_joining::next;
 use c_numbers::KeyTable;
 use c_typed::{Function, Object, Typed};
-use lay_base::{List, Name, NoMemory, Place, add, copied};
+use lay_base::{List, NoMemory, copied};
 use std::alloc::Global;
 
 /// The key of a reference.
@@ -47,56 +47,6 @@ fn is_used(alloc: Global, used: &KeyTable, reference: Reference) -> Result<bool,
     Ok(used.number(&key) < used.len())
 }
 
-/// Adds what is used and not defined.
-fn add_missing(
-    alloc: Global,
-    missing: &mut List<Trouble>,
-    is_missing: bool,
-    name: &Name,
-    place: Place,
-) -> Result<(), NoMemory>
-    ensures { OnOk result (map trouble_of missing.new ≡ map trouble_of missing.old ++ (if is_missing then record { name = name.now; place = place; first = place } ∷ [] else [])) }
-{
-    if !is_missing {
-        return Ok(());
-    }
-    let name = copy_of_name(alloc, name)?;
-    add(
-        missing,
-        Trouble {
-            name,
-            place,
-            first: place,
-        },
-    )
-}
-
-fn add_object(
-    alloc: Global,
-    used: &KeyTable,
-    n: u32,
-    o: &Object,
-    missing: &mut List<Trouble>,
-) -> Result<(), NoMemory>
-    ensures { OnOk result (map trouble_of missing.new ≡ map trouble_of missing.old ++ object_nowhere used.now n o.now) }
-{
-    let is_missing = is_used(alloc, used, Reference::Object(n))? && o.initial.is_none();
-    add_missing(alloc, missing, is_missing, &o.name, o.place)
-}
-
-fn add_function(
-    alloc: Global,
-    used: &KeyTable,
-    n: u32,
-    f: &Function,
-    missing: &mut List<Trouble>,
-) -> Result<(), NoMemory>
-    ensures { OnOk result (map trouble_of missing.new ≡ map trouble_of missing.old ++ function_nowhere used.now n (data_of f.now)) }
-{
-    let is_missing = is_used(alloc, used, Reference::Function(n))? && f.body.is_none();
-    add_missing(alloc, missing, is_missing, &f.name, f.place)
-}
-
 fn add_objects(
     alloc: Global,
     used: &KeyTable,
@@ -107,7 +57,9 @@ fn add_objects(
 {
     let mut n: u32 = 0;
     for o in objects {
-        add_object(alloc, used, n, o, missing)?;
+        if o.initial.is_none() && is_used(alloc, used, Reference::Object(n))? {
+            add_trouble(alloc, missing, &o.name, o.place, o.place)?;
+        }
         n = next(n)?;
     }
     Ok(())
@@ -123,7 +75,9 @@ fn add_functions(
 {
     let mut n: u32 = 0;
     for f in functions {
-        add_function(alloc, used, n, f, missing)?;
+        if f.body.is_none() && is_used(alloc, used, Reference::Function(n))? {
+            add_trouble(alloc, missing, &f.name, f.place, f.place)?;
+        }
         n = next(n)?;
     }
     Ok(())

@@ -12,12 +12,12 @@ ghost use Rattle.c_joining.specs.Placing.{replaces_one};
 ghost use Rattle.c_numbers.specs.KeyNumbers.Keys.{with_key};
 
 use crate::linked::Linked;
-use crate::troubles::{Trouble, earliest};
-use c_joining::{copy_of_name, name_key, number_of, put};
+use crate::troubles::{Trouble, add_trouble, earliest};
+use c_joining::{name_key, number_of, put};
 use c_numbers::KeyTable;
 use c_typed::Unit;
 use c_types::same;
-use lay_base::{List, NoMemory, add};
+use lay_base::{List, NoMemory};
 use std::alloc::Global;
 
 /// What is asked of a name that several units declare.
@@ -36,25 +36,6 @@ fn names_of(alloc: Global, all: &[Linked]) -> Result<KeyTable, NoMemory>
         names.add(name_key(alloc, &l.name)?)?;
     }
     Ok(names)
-}
-
-fn add_trouble(
-    alloc: Global,
-    troubles: &mut List<Trouble>,
-    first: &Linked,
-    l: &Linked,
-) -> Result<(), NoMemory>
-    ensures { OnOk result (map trouble_of troubles.new ≡ map trouble_of troubles.old ++ trouble (linked_of l.now) (linked_of first.now) ∷ []) }
-{
-    let name = copy_of_name(alloc, &l.name)?;
-    add(
-        troubles,
-        Trouble {
-            name,
-            place: l.place,
-            first: first.place,
-        },
-    )
 }
 
 /// Whether two of one name are at odds.
@@ -80,7 +61,7 @@ fn tell(
         None => Ok(()),
         Some(first) => {
             if differ(asked, first, l) {
-                add_trouble(alloc, troubles, first, l)
+                add_trouble(alloc, troubles, &l.name, l.place, first.place)
             } else {
                 Ok(())
             }

@@ -1,11 +1,13 @@
 //! What is wrong with a name, and where.
 
-ghost use Rattle.std.specs.Prelude.{◌≡◌, map};
+ghost use Rattle.std.specs.Prelude.{◌≡◌, ◌++◌, ◌∷◌, [], OnOk, map};
 ghost use Rattle.std.specs.Option.{option_map};
 ghost use Rattle.c_link.specs.Clashes.{trouble_of};
 ghost use Rattle.c_link.specs.Earliest.{earlier_of, earliest_of, is_earlier};
 
-use lay_base::{List, Name, Place};
+use c_joining::copy_of_name;
+use lay_base::{List, Name, NoMemory, Place, add};
+use std::alloc::Global;
 
 /// A name, where it stands, and where it stood first.
 #[derive(Drop)]
@@ -13,6 +15,21 @@ pub struct Trouble {
     pub name: Name,
     pub place: Place,
     pub first: Place,
+}
+
+/// Adds a trouble with a name.
+pub fn add_trouble(
+    alloc: Global,
+    troubles: &mut List<Trouble>,
+    name: &Name,
+    place: Place,
+    first: Place,
+) -> Result<(), NoMemory>
+    ensures { OnOk result (map trouble_of troubles.new ≡ map trouble_of troubles.old ++ record { name = name.now; place = place; first = first } ∷ []) }
+{
+    let name = copy_of_name(alloc, name)?;
+    let trouble = Trouble { name, place, first };
+    add(troubles, trouble)
 }
 
 /// Whether a place stands before another, in the order of the files and then of their bytes.

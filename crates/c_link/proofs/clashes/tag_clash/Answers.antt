@@ -11,8 +11,8 @@ use Rattle.c_link.proofs.clashes.tag_clash.Goals as goal
 pub returns : goal.returns
 returns c =
     let units = map unit_data c.args.units.now in
-    let tags = c.in_ok-tags.tags in
+    let tags = c.args.tags.now in
     let e = c.earliest.ensures ∙ ap earliest_of c.in_ok-troubles.ensures ∙ ap (λ them. earliest_of (clashes tags [] (records_of them))) c.as_slice.ensures
     ∙ ap (λ them. earliest_of (clashes tags [] them)) c.in_ok-all.ensures
-    ∙ ap (λ them. earliest_of (clashes them [] (flat_map (records_in them) units))) c.in_ok-tags.ensures in
+    ∙ ap (λ them. earliest_of (clashes them [] (flat_map (records_in them) units))) c.requires in
     clash_or_none units c.earliest.result e
