@@ -1,7 +1,6 @@
 -- What is told of names is what is wrong with them: a name of two types, and one that is defined twice.
 use Rattle.std.proofs.Common.{◌≡◌, ◌≢◌, ℕ, inl, inr, Bool, true, false, ◌&&◌, List, [], ◌∷◌, ◌++◌, Option, Some, None, fold, map, refl, sym, ap, ◌∙◌, subst}
-use Rattle.std.specs.Prelude.{if◌then◌else◌, filter, IfOk, MatchOption, Result, Ok, Err}
-use Rattle.lay_base.specs.declared.no_memory.NoMemory.{NoMemory}
+use Rattle.std.specs.Prelude.{if◌then◌else◌, filter, MatchOption}
 use Rattle.std.specs.Option.{option_map}
 use Rattle.std.specs.Str.{bytes_eq}
 use Rattle.std.proofs.lemmas.Bool.{and_parts}
@@ -13,11 +12,12 @@ use Rattle.c_typed.specs.Programs.{UnitData}
 use Rattle.c_numbers.specs.KeyNumbers.Keys.{with_key}
 use Rattle.c_joining.specs.Joining.{chosen, chosen_among, or_first, under}
 use Rattle.c_link.specs.Clashes.{trouble_of}
+use Rattle.c_link.specs.declared.names.Asked.{Asked}
 use Rattle.c_link.specs.declared.names.Asked.TheVariants.{OneType, OneDefinition}
 use Rattle.c_link.specs.declared.troubles.Trouble as troubles
 use Rattle.c_link.specs.Earliest.{earliest_of}
 use Rattle.c_link.specs.Gaps.{HasNone, IsEarliest, IsIn, IsNameClash, IsTwice, Linked, Trouble, linked_in, of_name, trouble}
-use Rattle.c_link.specs.Names.{counts, defined_twice, of_two_types, told_by, troubles_with_names}
+use Rattle.c_link.specs.Names.{IsAsked, counts, defined_twice, of_two_types, told_by, troubles_with_names}
 use Rattle.c_link.specs.Repeats.{of_that_name}
 use Rattle.c_link.proofs.Earliest.{earliest_or_none}
 use Rattle.c_link.proofs.Repeats.{IsTold, in_is_told, told_is_in}
@@ -224,14 +224,8 @@ twice_or_none units o h =
     (λ t w. told_is_in (λ (l : Linked). l.name) (counts OneDefinition) (told_by OneDefinition) keys [] all (all_keys all) t (twice_is_told units t w))
     (λ t w. told_is_twice units t (in_is_told (λ (l : Linked). l.name) (counts OneDefinition) (told_by OneDefinition) keys [] all (all_keys all) t w)) o h
 
-pub clash_by : (units : List UnitData) (all : List Linked) (r : Result (Option troubles.Trouble) NoMemory) → all ≡ linked_in units
-    → IfOk r (λ found. option_map trouble_of found ≡ earliest_of (troubles_with_names OneType all))
-    → IfOk r (λ found. MatchOption found (HasNone (IsNameClash units)) (λ t. IsEarliest (IsNameClash units) (trouble_of t)))
-clash_by units all (Ok found) e h = clash_or_none units found (h ∙ ap (λ them. earliest_of (troubles_with_names OneType them)) e)
-clash_by units all (Err want) e h = tt
-
-pub twice_by : (units : List UnitData) (all : List Linked) (r : Result (Option troubles.Trouble) NoMemory) → all ≡ linked_in units
-    → IfOk r (λ found. option_map trouble_of found ≡ earliest_of (troubles_with_names OneDefinition all))
-    → IfOk r (λ found. MatchOption found (HasNone (IsTwice units)) (λ t. IsEarliest (IsTwice units) (trouble_of t)))
-twice_by units all (Ok found) e h = twice_or_none units found (h ∙ ap (λ them. earliest_of (troubles_with_names OneDefinition them)) e)
-twice_by units all (Err want) e h = tt
+pub asked_or_none : (units : List UnitData) (asked : Asked) (all : List Linked) (o : Option troubles.Trouble) → all ≡ linked_in units
+    → option_map trouble_of o ≡ earliest_of (troubles_with_names asked all)
+    → MatchOption o (HasNone (IsAsked asked units)) (λ t. IsEarliest (IsAsked asked units) (trouble_of t))
+asked_or_none units OneType all o e h = clash_or_none units o (h ∙ ap (λ them. earliest_of (troubles_with_names OneType them)) e)
+asked_or_none units OneDefinition all o e h = twice_or_none units o (h ∙ ap (λ them. earliest_of (troubles_with_names OneDefinition them)) e)

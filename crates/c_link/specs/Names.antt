@@ -3,7 +3,8 @@ use Rattle.std.specs.Prelude.{Bool, true, ◌&&◌, if◌then◌else◌, List, [
 use Rattle.c_types.specs.Sameness.{same_type}
 use Rattle.c_types.specs.Views.{type_of}
 use Rattle.c_numbers.specs.KeyNumbers.Keys.{with_key}
-use Rattle.c_link.specs.Gaps.{Linked, Trouble, trouble}
+use Rattle.c_typed.specs.Programs.{UnitData}
+use Rattle.c_link.specs.Gaps.{IsNameClash, IsTwice, Linked, Trouble, trouble}
 use Rattle.c_link.specs.Repeats.{repeats}
 use Rattle.c_link.specs.declared.linked.Linked as declared
 use Rattle.c_link.specs.declared.names.Asked.{Asked}
@@ -31,3 +32,8 @@ counts OneDefinition l = l.is_defined
 
 abbrev pub troubles_with_names : Asked → List Linked → List Trouble
 troubles_with_names asked all = repeats (λ l. l.name) (counts asked) (told_by asked) (fold with_key [] (map (λ l. l.name) all)) [] all
+
+-- the troubles that are asked for
+abbrev pub IsAsked : Asked → List UnitData → Trouble → Type 0
+IsAsked OneType = IsNameClash
+IsAsked OneDefinition = IsTwice

@@ -14,7 +14,6 @@ mod initial_texts;
 mod limits;
 mod linked;
 mod linking;
-mod main_function;
 mod missing;
 mod names;
 mod structures;

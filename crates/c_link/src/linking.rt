@@ -1,8 +1,8 @@
 //! The program of units, or their first gap.
 
-ghost use Rattle.std.specs.Prelude.{◌≡◌, [], All, IfOk, get_or, map};
+ghost use Rattle.std.specs.Prelude.{◌≡◌, ◌↔◌, [], All, IfOk, IsTrue, get_or, map};
 ghost use Rattle.c_link.specs.Counting.{AreMeasured, IsCountable};
-ghost use Rattle.c_link.specs.Gaps.{Agree};
+ghost use Rattle.c_link.specs.Gaps.{Agree, HasMain};
 ghost use Rattle.c_link.specs.Linking.{AgreeGives, CompleteGives, LinkGives, WithinGives};
 ghost use Rattle.c_typed.specs.Programs.{program_data, unit_data};
 
@@ -10,9 +10,8 @@ use crate::clashes::tag_clash;
 use crate::gap::Gap;
 use crate::limits::limit_past;
 use crate::linked::linked_in;
-use crate::main_function::has_main;
 use crate::missing::missing_name;
-use crate::names::{defined_twice, name_clash};
+use crate::names::{Asked, name_trouble};
 use crate::structures::least_open;
 use crate::tag_names::tag_names;
 use c_joining::{all_tags, copy_of_name, join};
@@ -30,10 +29,10 @@ fn agree(alloc: Global, units: &[Unit]) -> Result<(), Gap>
         return Err(Gap::TagClash(t));
     }
     let linked = linked_in(alloc, &tags, units)?;
-    if let Some(t) = name_clash(alloc, units, linked.as_slice())? {
+    if let Some(t) = name_trouble(alloc, Asked::OneType, units, linked.as_slice())? {
         return Err(Gap::NameClash(t));
     }
-    match defined_twice(alloc, units, linked.as_slice())? {
+    match name_trouble(alloc, Asked::OneDefinition, units, linked.as_slice())? {
         Some(t) => Err(Gap::Twice(t)),
         None => Ok(()),
     }
@@ -46,6 +45,16 @@ fn tag_of(alloc: Global, tags: &[Name], number: u32) -> Result<Name, NoMemory>
     match tags.get(number as usize) {
         Some(tag) => copy_of_name(alloc, tag),
         None => Ok(Name::of(Vec::new(alloc))),
+    }
+}
+
+/// Whether the function `main` is there and has a body (C99 5.1.2.2.1).
+fn has_main(p: &Typed) -> bool
+    ensures { IsTrue result ↔ HasMain (program_data p.now) }
+{
+    match p.functions.get(p.main as usize) {
+        Some(f) => f.body.is_some(),
+        None => false,
     }
 }
 

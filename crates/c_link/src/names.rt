@@ -3,10 +3,9 @@
 ghost use Rattle.std.specs.Prelude.{◌≡◌, ◌++◌, ◌∷◌, [], IfOk, MatchOption, OnOk, fold, if◌then◌else◌, map};
 ghost use Rattle.std.specs.Option.{option_copied, option_map};
 ghost use Rattle.c_link.specs.Clashes.{trouble_of};
-ghost use Rattle.c_link.specs.Gaps.{HasNone, IsEarliest, IsNameClash, IsTwice, linked_in, trouble};
+ghost use Rattle.c_link.specs.Gaps.{HasNone, IsEarliest, linked_in, trouble};
 ghost use Rattle.c_typed.specs.Programs.{unit_data};
-ghost use Rattle.c_link.specs.Names.{counts, linked_of, told_by, troubles_with_names};
-ghost use Rattle.c_link.specs.Earliest.{earliest_of};
+ghost use Rattle.c_link.specs.Names.{IsAsked, counts, linked_of, told_by};
 ghost use Rattle.c_link.specs.Repeats.{repeats, told_if_any};
 ghost use Rattle.c_joining.specs.Placing.{replaces_one};
 ghost use Rattle.c_numbers.specs.KeyNumbers.Keys.{with_key};
@@ -22,7 +21,7 @@ use std::alloc::Global;
 
 /// What is asked of a name that several units declare.
 #[derive(Clone, Copy)]
-enum Asked {
+pub enum Asked {
     OneType,
     OneDefinition,
 }
@@ -102,39 +101,17 @@ fn name_troubles(
     Ok(troubles)
 }
 
-/// The earliest trouble with a name, if there is one.
-fn earliest_trouble(
+/// The earliest trouble with a name of units, if there is one. The names are those of the units.
+pub fn name_trouble(
     alloc: Global,
     asked: Asked,
+    units: &[Unit],
     all: &[Linked],
 ) -> Result<Option<Trouble>, NoMemory>
-    ensures { IfOk result (λ found. option_map trouble_of found ≡ earliest_of (troubles_with_names asked (map linked_of all.now))) }
+    requires { map linked_of all.now ≡ linked_in (map unit_data units.now) }
+    ensures { IfOk result (λ found. MatchOption found (HasNone (IsAsked asked (map unit_data units.now))) (λ t. IsEarliest (IsAsked asked (map unit_data units.now)) (trouble_of t))) }
 {
     let names = names_of(alloc, all)?;
     let troubles = name_troubles(alloc, asked, &names, all)?;
     Ok(earliest(troubles))
-}
-
-/// The earliest name of units that has two types, if there is one. The names are those of the units.
-pub fn name_clash(
-    alloc: Global,
-    units: &[Unit],
-    all: &[Linked],
-) -> Result<Option<Trouble>, NoMemory>
-    requires { map linked_of all.now ≡ linked_in (map unit_data units.now) }
-    ensures { IfOk result (λ found. MatchOption found (HasNone (IsNameClash (map unit_data units.now))) (λ t. IsEarliest (IsNameClash (map unit_data units.now)) (trouble_of t))) }
-{
-    earliest_trouble(alloc, Asked::OneType, all)
-}
-
-/// The earliest name of units that is defined twice, if there is one. The names are those of the units.
-pub fn defined_twice(
-    alloc: Global,
-    units: &[Unit],
-    all: &[Linked],
-) -> Result<Option<Trouble>, NoMemory>
-    requires { map linked_of all.now ≡ linked_in (map unit_data units.now) }
-    ensures { IfOk result (λ found. MatchOption found (HasNone (IsTwice (map unit_data units.now))) (λ t. IsEarliest (IsTwice (map unit_data units.now)) (trouble_of t))) }
-{
-    earliest_trouble(alloc, Asked::OneDefinition, all)
 }

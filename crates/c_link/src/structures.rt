@@ -2,7 +2,7 @@
 
 ghost use Rattle.std.specs.Prelude.{◌≡◌, ◌++◌, [], IfOk, MatchOption, None, flat_map, fold, map};
 ghost use Rattle.c_link.specs.Gaps.{IsLeast, open_structures, structures_in, types_of_function, types_of_object};
-ghost use Rattle.c_link.specs.Missing.{have_none, least_among, least_in, lesser, lesser_at, lesser_if_any, lesser_of};
+ghost use Rattle.c_link.specs.Missing.{have_none, least_among, least_in, lesser_at, lesser_of};
 ghost use Rattle.c_typed.specs.Programs.{program_data};
 ghost use Rattle.c_types.specs.Types.{field_types};
 ghost use Rattle.c_types.specs.Views.{field_of, records_of, type_of};
@@ -22,12 +22,6 @@ fn lesser_of(best: Option<u32>, n: u32) -> Option<u32>
     }
 }
 
-fn lesser(count: u32, best: Option<u32>, n: u32) -> Option<u32>
-    ensures { result ≡ lesser count best n }
-{
-    if count <= n { lesser_of(best, n) } else { best }
-}
-
 /// The least number of a structure from `count` on, among those in a type and one found before.
 #[tactic(auto, using(crate::proofs::OpenStructures::least_append))]
 fn least_among(count: u32, best: Option<u32>, t: &Ty) -> Option<u32>
@@ -44,7 +38,11 @@ fn least_among(count: u32, best: Option<u32>, t: &Ty) -> Option<u32>
             }
             best
         }
-        Ty::Record(number) => lesser(count, best, *number),
+        Ty::Record(number) => if count <= *number {
+            lesser_of(best, *number)
+        } else {
+            best
+        },
     }
 }
 
@@ -57,15 +55,6 @@ fn least_of_each(alloc: Global, count: u32, types: &[Ty]) -> Result<Vec<Option<u
         push(&mut leasts, least_among(count, None, t))?;
     }
     Ok(leasts)
-}
-
-fn lesser_if_any(best: Option<u32>, other: Option<u32>) -> Option<u32>
-    ensures { result ≡ lesser_if_any best other }
-{
-    match other {
-        None => best,
-        Some(n) => lesser_of(best, n),
-    }
 }
 
 #[tactic(auto, using(crate::proofs::OpenStructures::least_append))]
@@ -90,21 +79,14 @@ fn least_in_records(count: u32, records: &[Record]) -> Option<u32>
     best
 }
 
-fn least_of_number(best: Option<u32>, leasts: &[Option<u32>], number: u32) -> Option<u32>
-    ensures { result ≡ lesser_at leasts.now best number }
-{
-    match leasts.get(number as usize) {
-        Some(least) => lesser_if_any(best, *least),
-        None => best,
-    }
-}
-
 fn least_in_numbers(best: Option<u32>, leasts: &[Option<u32>], numbers: &[u32]) -> Option<u32>
     ensures { result ≡ fold (lesser_at leasts.now) best numbers.now }
 {
     let mut best = best;
     for number in numbers {
-        best = least_of_number(best, leasts, *number);
+        if let Some(Some(n)) = leasts.get(*number as usize) {
+            best = lesser_of(best, *n);
+        }
     }
     best
 }

@@ -1,7 +1,7 @@
 use Rattle.std.proofs.Common.{◌≡◌, rules}
 use Rattle.std.specs.Prelude.{is_some, slice_get, Some, None}
 use Rattle.c_link.proofs.MainFunction.{found_main, no_main_found}
-use Rattle.c_link.proofs.main_function.has_main.Goals as goal
+use Rattle.c_link.proofs.linking.has_main.Goals as goal
 
 pub returns-in-Some : goal.returns-in-Some
 returns-in-Some c =

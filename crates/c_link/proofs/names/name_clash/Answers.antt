@@ -1,8 +1,0 @@
-use Rattle.c_typed.specs.Programs.{unit_data}
-use Rattle.std.proofs.Common.{map}
-use Rattle.c_link.specs.Names.{linked_of}
-use Rattle.c_link.proofs.NameTroubles.{clash_by}
-use Rattle.c_link.proofs.names.name_clash.Goals as goal
-
-pub returns : goal.returns
-returns c = clash_by (map unit_data c.args.units.now) (map linked_of c.args.all.now) c.earliest_trouble.result c.requires c.earliest_trouble.ensures
