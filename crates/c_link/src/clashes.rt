@@ -46,13 +46,10 @@ fn add_clash(
     ensures { OnOk result (map trouble_of troubles.new ≡ map trouble_of troubles.old ++ told_if_any differing (option_map record_of (option_copied first.entry)) (record_of r.now)) }
 {
     match first {
-        None => Ok(()),
-        Some(first) => {
-            if same_fields(r.fields.as_slice(), first.fields.as_slice()) {
-                return Ok(());
-            }
+        Some(first) if !same_fields(r.fields.as_slice(), first.fields.as_slice()) => {
             add_trouble(alloc, troubles, &r.tag, r.place, first.place)
         }
+        _ => Ok(()),
     }
 }
 

@@ -4,7 +4,7 @@ ghost use Rattle.std.specs.Prelude.{◌≡◌, ◌+◌, ◌++◌, All, IfOk, fol
 ghost use Rattle.std.specs.Int.{next_multiple_of};
 ghost use Rattle.std.specs.Option.{option_map};
 ghost use Rattle.c_link.specs.Counting.{AreLocalsMeasured, AreMeasured, IsMeasured, passed_of};
-ghost use Rattle.c_link.specs.Gaps.{first_limit, first_past, limits, local_bytes, object_bytes, past_alone};
+ghost use Rattle.c_link.specs.Gaps.{first_limit, first_past, limits, local_bytes, object_bytes, or_limit, past_alone};
 ghost use Rattle.c_link.specs.Texts.{texts_in_functions};
 ghost use Rattle.c_typed.specs.Programs.{data_of, program_data};
 ghost use Rattle.c_types.specs.Layouts.{size_of};
@@ -95,26 +95,17 @@ fn frame_past(p: &Typed, functions: &[Function]) -> Result<Option<u64>, NoMemory
     Ok(None)
 }
 
-/// The bytes of an object, rounded up to a multiple of 4.
-fn object_bytes(p: &Typed, o: &Object) -> u32
-    requires { IsMeasured (records_of p.now.records) (get_or (map type_of p.now.types) o.now.ty void) }
-    ensures { result ≡ object_bytes (program_data p.now) o.now }
-{
-    if o.initial.is_some() {
-        size_of_number(&p.records, p.types.as_slice(), o.ty).next_multiple_of(4)
-    } else {
-        0
-    }
-}
-
-/// The bytes of all objects, and of the strings that initialize the locals of functions.
+/// The bytes of all objects, each rounded up to a multiple of 4, and of the strings that initialize the locals of functions.
 fn global_bytes(p: &Typed, objects: &[Object], functions: &[Function]) -> Result<u64, NoMemory>
     requires { All (λ o. IsMeasured (records_of p.now.records) (get_or (map type_of p.now.types) o.ty void)) objects.now }
     ensures { IfOk result (λ n. n ≡ fold (λ n o. n + object_bytes (program_data p.now) o) 0 objects.now + texts_in_functions (map data_of functions.now)) }
 {
     let mut bytes: u64 = 0;
     for o in objects {
-        bytes = sum(bytes, object_bytes(p, o))?;
+        if o.initial.is_some() {
+            let size = size_of_number(&p.records, p.types.as_slice(), o.ty);
+            bytes = sum(bytes, size.next_multiple_of(4))?;
+        }
     }
     let bytes = texts_in_functions(bytes, functions);
     if bytes == u64::MAX {
@@ -124,37 +115,28 @@ fn global_bytes(p: &Typed, objects: &[Object], functions: &[Function]) -> Result
     }
 }
 
+/// A limit that is passed, where a number passes it, or a later one.
+fn first_of(which: LimitKind, counted: Option<u64>, later: Option<Passed>) -> Option<Passed>
+    ensures { option_map passed_of result ≡ or_limit which counted (option_map passed_of later) }
+{
+    match counted {
+        Some(counted) => Some(Passed { which, counted }),
+        None => later,
+    }
+}
+
 /// The first limit that a program passes.
 pub fn limit_past(p: &Typed) -> Result<Option<Passed>, NoMemory>
     requires { AreMeasured (program_data p.now) }
     ensures { IfOk result (λ it. option_map passed_of it ≡ first_limit (program_data p.now) limits) }
 {
-    if let Some(counted) = past_alone(131_072, p.nodes) {
-        return Ok(Some(Passed {
-            which: LimitKind::Nodes,
-            counted,
-        }));
-    }
-    if let Some(counted) = fields_past(p.records.as_slice()) {
-        return Ok(Some(Passed {
-            which: LimitKind::Fields,
-            counted,
-        }));
-    }
-    if let Some(counted) = frame_past(p, p.functions.as_slice())? {
-        return Ok(Some(Passed {
-            which: LimitKind::Frame,
-            counted,
-        }));
-    }
-    match past_alone(
-        16_777_216,
-        global_bytes(p, p.objects.as_slice(), p.functions.as_slice())?,
-    ) {
-        Some(counted) => Ok(Some(Passed {
-            which: LimitKind::Globals,
-            counted,
-        })),
-        None => Ok(None),
-    }
+    let bytes = global_bytes(p, p.objects.as_slice(), p.functions.as_slice())?;
+    let globals = first_of(LimitKind::Globals, past_alone(16_777_216, bytes), None);
+    let frame = first_of(
+        LimitKind::Frame,
+        frame_past(p, p.functions.as_slice())?,
+        globals,
+    );
+    let fields = first_of(LimitKind::Fields, fields_past(p.records.as_slice()), frame);
+    Ok(first_of(LimitKind::Nodes, past_alone(131_072, p.nodes), fields))
 }

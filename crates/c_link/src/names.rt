@@ -57,14 +57,10 @@ fn tell(
     ensures { OnOk result (map trouble_of troubles.new ≡ map trouble_of troubles.old ++ told_if_any (told_by asked) (option_map linked_of (option_copied first.entry)) (linked_of l.now)) }
 {
     match first {
-        None => Ok(()),
-        Some(first) => {
-            if differ(asked, first, l) {
-                add_trouble(alloc, troubles, &l.name, l.place, first.place)
-            } else {
-                Ok(())
-            }
+        Some(first) if differ(asked, first, l) => {
+            add_trouble(alloc, troubles, &l.name, l.place, first.place)
         }
+        _ => Ok(()),
     }
 }
 

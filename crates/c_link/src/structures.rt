@@ -28,7 +28,6 @@ fn least_among(count: u32, best: Option<u32>, t: &Ty) -> Option<u32>
     ensures { result ≡ least_among count best (structures_in (type_of t.now)) }
 {
     match t {
-        Ty::Void | Ty::Int(_) => best,
         Ty::Pointer(to) => least_among(count, best, to.get()),
         Ty::Array(element, _) => least_among(count, best, element.get()),
         Ty::Function(result, parameters) => {
@@ -38,11 +37,8 @@ fn least_among(count: u32, best: Option<u32>, t: &Ty) -> Option<u32>
             }
             best
         }
-        Ty::Record(number) => if count <= *number {
-            lesser_of(best, *number)
-        } else {
-            best
-        },
+        Ty::Record(number) if count <= *number => lesser_of(best, *number),
+        Ty::Void | Ty::Int(_) | Ty::Record(_) => best,
     }
 }
 
@@ -79,18 +75,6 @@ fn least_in_records(count: u32, records: &[Record]) -> Option<u32>
     best
 }
 
-fn least_in_numbers(best: Option<u32>, leasts: &[Option<u32>], numbers: &[u32]) -> Option<u32>
-    ensures { result ≡ fold (lesser_at leasts.now) best numbers.now }
-{
-    let mut best = best;
-    for number in numbers {
-        if let Some(Some(n)) = leasts.get(*number as usize) {
-            best = lesser_of(best, *n);
-        }
-    }
-    best
-}
-
 fn have_none(leasts: &[Option<u32>]) -> bool
     ensures { result ≡ have_none leasts.now }
 {
@@ -116,7 +100,14 @@ fn least_in_held(
         return Ok(best);
     }
     let held = held_by(alloc, p)?;
-    Ok(least_in_numbers(best, leasts, held.types.as_slice()))
+    let numbers = held.types.as_slice();
+    let mut best = best;
+    for number in numbers {
+        if let Some(Some(n)) = leasts.get(*number as usize) {
+            best = lesser_of(best, *n);
+        }
+    }
+    Ok(best)
 }
 
 /// The least number of a structure that no file completes, where a type of the program holds one.

@@ -5,7 +5,7 @@ ghost use Rattle.std.specs.Option.{option_map};
 ghost use Rattle.c_numbers.specs.NewNumbers.Nodes.{arm_of};
 ghost use Rattle.c_typed.specs.References.{references_by_arms, references_by_initial, references_by_statement, references_by_statements};
 ghost use Rattle.c_typed.specs.References.{references_by_value, references_if_any};
-ghost use Rattle.c_typed.specs.Views.{arms_of, expression_of, initializer_of, part_of, part_value_of, statement_of, statements_of};
+ghost use Rattle.c_typed.specs.Views.{arms_of, expression_of, initializer_of, part_of, statement_of, statements_of};
 ghost use Rattle.c_typed.specs.Walk.{types_if_any, types_in_arms, types_in_initial, types_in_statement, types_in_statements, types_in_value};
 ghost use Rattle.c_link.specs.TreeUses.Uses.{reference_of};
 
@@ -15,23 +15,16 @@ use c_typed::{Arm, Expression, Initializer, InitializerPart, PartValue, Statemen
 use lay_base::{Boxed, List, NoMemory};
 use std::mem::replace;
 
-fn in_value(found: &mut Found, value: &PartValue) -> Result<(), NoMemory>
-    ensures types { OnOk result (found.new.types ≡ found.old.types ++ types_in_value (part_value_of value.now)) }
-    ensures references { OnOk result (map reference_of found.new.references ≡ map reference_of found.old.references ++ references_by_value (part_value_of value.now)) }
-{
-    match value {
-        PartValue::Value(e) => in_expression(found, e.get()),
-        PartValue::Record(p) => in_path(found, p),
-        PartValue::Text(_) => Ok(()),
-    }
-}
-
 fn in_parts(found: &mut Found, all: &[InitializerPart]) -> Result<(), NoMemory>
     ensures types { OnOk result (found.new.types ≡ found.old.types ++ flat_map (λ part. types_in_value part.value) (map part_of all.now)) }
     ensures references { OnOk result (map reference_of found.new.references ≡ map reference_of found.old.references ++ flat_map (λ part. references_by_value part.value) (map part_of all.now)) }
 {
     for part in all {
-        in_value(found, &part.value)?;
+        match &part.value {
+            PartValue::Value(e) => in_expression(found, e.get())?,
+            PartValue::Record(p) => in_path(found, p)?,
+            PartValue::Text(_) => {}
+        }
     }
     Ok(())
 }

@@ -1,6 +1,6 @@
 use Rattle.std.proofs.Common.{◌≡◌, drop, fold}
 use Rattle.c_link.specs.Missing.{lesser_at}
-use Rattle.c_link.proofs.structures.least_in_numbers.Given as goal
+use Rattle.c_link.proofs.structures.least_in_held.Given as goal
 
 abbrev pub invariant-loop-number : goal.invariant-loop-number
 invariant-loop-number l = fold (lesser_at l.leasts) l.best (drop l.number-index l.numbers) ≡ fold (lesser_at l.leasts) l.initial.best l.numbers
