@@ -1,6 +1,7 @@
 //! The program of units, or their first gap.
 
 ghost use Rattle.std.specs.Prelude.{◌≡◌, ◌↔◌, [], All, IfOk, IsTrue, get_or, map};
+ghost use Rattle.c_joining.specs.Joining.{all_tags};
 ghost use Rattle.c_link.specs.Counting.{AreMeasured, IsCountable};
 ghost use Rattle.c_link.specs.Gaps.{Agree, HasMain};
 ghost use Rattle.c_link.specs.Linking.{AgreeGives, CompleteGives, LinkGives, WithinGives};
@@ -13,22 +14,23 @@ use crate::linked::linked_in;
 use crate::missing::missing_name;
 use crate::names::{Asked, name_trouble};
 use crate::structures::least_open;
-use crate::tag_names::tag_names;
-use c_joining::{all_tags, copy_of_name, join};
+use crate::tag_names::tags_of;
+use c_joining::{copy_of_name, join};
+use c_numbers::KeyTable;
 use c_typed::{Typed, Unit};
 use c_types::records_are_complete;
 use lay_base::{List, Name, NoMemory};
 use std::alloc::Global;
 
 /// Whether the units agree on tags, on types of names, and on what is defined.
-fn agree(alloc: Global, units: &[Unit]) -> Result<(), Gap>
+fn agree(alloc: Global, tags: &KeyTable, units: &[Unit]) -> Result<(), Gap>
+    requires { tags.now ≡ all_tags (map unit_data units.now) }
     ensures { AgreeGives (map unit_data units.now) result }
 {
-    let tags = all_tags(alloc, units)?;
-    if let Some(t) = tag_clash(alloc, &tags, units)? {
+    if let Some(t) = tag_clash(alloc, tags, units)? {
         return Err(Gap::TagClash(t));
     }
-    let linked = linked_in(alloc, &tags, units)?;
+    let linked = linked_in(alloc, tags, units)?;
     if let Some(t) = name_trouble(alloc, Asked::OneType, units, linked.as_slice())? {
         return Err(Gap::NameClash(t));
     }
@@ -88,15 +90,15 @@ fn within_limits(p: Typed) -> Result<Typed, Gap>
 
 /// The program of units that agree, or what it lacks.
 #[tactic(auto, using(crate::proofs::Lacks::lack_is_gap, crate::proofs::Lacks::within_is_program))]
-fn whole_program(alloc: Global, units: List<Unit>) -> Result<Typed, Gap>
+fn whole_program(alloc: Global, tags: &[Name], units: List<Unit>) -> Result<Typed, Gap>
+    requires tags { tags.now ≡ all_tags (map unit_data units) }
     requires agree { Agree (map unit_data units) }
     requires countable { All IsCountable (map unit_data units) }
     ensures { LinkGives (map unit_data units) result }
 {
-    let tags = tag_names(alloc, units.as_slice())?;
     let p = join(alloc, units)?;
     records_are_complete(&p.records);
-    match complete(alloc, tags.as_slice(), &p) {
+    match complete(alloc, tags, &p) {
         Err(gap) => Err(gap),
         Ok(()) => within_limits(p),
     }
@@ -107,8 +109,9 @@ pub fn link(alloc: Global, units: List<Unit>) -> Result<Typed, Gap>
     requires { All IsCountable (map unit_data units) }
     ensures { LinkGives (map unit_data units) result }
 {
-    match agree(alloc, units.as_slice()) {
+    let tags = tags_of(alloc, units.as_slice())?;
+    match agree(alloc, &tags.keys, units.as_slice()) {
         Err(gap) => Err(gap),
-        Ok(()) => whole_program(alloc, units),
+        Ok(()) => whole_program(alloc, tags.names.as_slice(), units),
     }
 }

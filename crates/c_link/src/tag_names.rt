@@ -12,84 +12,74 @@ use c_types::Record;
 use lay_base::{List, Name, NoMemory, add};
 use std::alloc::Global;
 
-/// Adds a name that is not among those before. The keys are those of the names.
-#[tactic(auto, using(crate::proofs::MissingNames::stays_with, crate::proofs::MissingNames::grows_with))]
-fn add_name(
-    alloc: Global,
-    keys: &mut KeyTable,
-    names: &mut List<Name>,
-    name: &Name,
-) -> Result<(), NoMemory>
-    requires { keys.old ≡ names.old }
-    ensures names { OnOk result (names.new ≡ with_key names.old name.now) }
-    ensures keys { OnOk result (keys.new ≡ names.new) }
-{
-    let key = name_key(alloc, name)?;
-    if keys.number(&key) < keys.len() {
-        return Ok(());
-    }
-    keys.add(key)?;
-    add(names, copy_of_name(alloc, name)?)
+/// Tags, as keys and as names.
+#[derive(Drop)]
+pub struct Tags {
+    pub keys: KeyTable,
+    pub names: List<Name>,
 }
 
-fn add_tags(
-    alloc: Global,
-    keys: &mut KeyTable,
-    names: &mut List<Name>,
-    records: &[Record],
-) -> Result<(), NoMemory>
-    requires { keys.old ≡ names.old }
-    ensures names { OnOk result (names.new ≡ fold with_key names.old (map (λ r. r.tag) records.now)) }
-    ensures keys { OnOk result (keys.new ≡ names.new) }
+/// Adds a name that is not among those before. The keys are those of the names.
+#[tactic(auto, using(crate::proofs::MissingNames::stays_with, crate::proofs::MissingNames::grows_with))]
+fn add_name(alloc: Global, tags: &mut Tags, name: &Name) -> Result<(), NoMemory>
+    requires { tags.old.keys ≡ tags.old.names }
+    ensures names { OnOk result (tags.new.names ≡ with_key tags.old.names name.now) }
+    ensures keys { OnOk result (tags.new.keys ≡ tags.new.names) }
+{
+    let key = name_key(alloc, name)?;
+    if tags.keys.number(&key) < tags.keys.len() {
+        return Ok(());
+    }
+    tags.keys.add(key)?;
+    add(&mut tags.names, copy_of_name(alloc, name)?)
+}
+
+fn add_tags(alloc: Global, tags: &mut Tags, records: &[Record]) -> Result<(), NoMemory>
+    requires { tags.old.keys ≡ tags.old.names }
+    ensures names { OnOk result (tags.new.names ≡ fold with_key tags.old.names (map (λ r. r.tag) records.now)) }
+    ensures keys { OnOk result (tags.new.keys ≡ tags.new.names) }
 {
     for r in records {
-        add_name(alloc, keys, names, &r.tag)?;
+        add_name(alloc, tags, &r.tag)?;
     }
     Ok(())
 }
 
-fn add_names(
-    alloc: Global,
-    keys: &mut KeyTable,
-    names: &mut List<Name>,
-    all: &[Name],
-) -> Result<(), NoMemory>
-    requires { keys.old ≡ names.old }
-    ensures names { OnOk result (names.new ≡ fold with_key names.old all.now) }
-    ensures keys { OnOk result (keys.new ≡ names.new) }
+fn add_names(alloc: Global, tags: &mut Tags, all: &[Name]) -> Result<(), NoMemory>
+    requires { tags.old.keys ≡ tags.old.names }
+    ensures names { OnOk result (tags.new.names ≡ fold with_key tags.old.names all.now) }
+    ensures keys { OnOk result (tags.new.keys ≡ tags.new.names) }
 {
     for name in all {
-        add_name(alloc, keys, names, name)?;
+        add_name(alloc, tags, name)?;
     }
     Ok(())
 }
 
 /// Adds the tags of the structures that units complete.
-fn add_complete(
-    alloc: Global,
-    keys: &mut KeyTable,
-    names: &mut List<Name>,
-    units: &[Unit],
-) -> Result<(), NoMemory>
-    requires { keys.old ≡ names.old }
-    ensures names { OnOk result (names.new ≡ fold with_key names.old (flat_map complete_in (map unit_data units.now))) }
-    ensures keys { OnOk result (keys.new ≡ names.new) }
+fn add_complete(alloc: Global, tags: &mut Tags, units: &[Unit]) -> Result<(), NoMemory>
+    requires { tags.old.keys ≡ tags.old.names }
+    ensures names { OnOk result (tags.new.names ≡ fold with_key tags.old.names (flat_map complete_in (map unit_data units.now))) }
+    ensures keys { OnOk result (tags.new.keys ≡ tags.new.names) }
 {
     for u in units {
-        add_tags(alloc, keys, names, u.records.as_slice())?;
+        add_tags(alloc, tags, u.records.as_slice())?;
     }
     Ok(())
 }
 
 /// The tags of the units' structures, those first that a unit completes.
-pub fn tag_names(alloc: Global, units: &[Unit]) -> Result<List<Name>, NoMemory>
-    ensures { IfOk result (λ names. names ≡ all_tags (map unit_data units.now)) }
+pub fn tags_of(alloc: Global, units: &[Unit]) -> Result<Tags, NoMemory>
+    ensures names { IfOk result (λ tags. tags.names ≡ all_tags (map unit_data units.now)) }
+    ensures keys { IfOk result (λ tags. tags.keys ≡ all_tags (map unit_data units.now)) }
 {
-    let mut keys = KeyTable::new(alloc);
-    let mut names = List::new(alloc);
-    add_complete(alloc, &mut keys, &mut names, units)?;
+    let mut tags = Tags {
+        keys: KeyTable::new(alloc),
+        names: List::new(alloc),
+    };
+    add_complete(alloc, &mut tags, units)?;
     for u in units {
-        add_names(alloc, &mut keys, &mut names, u.incomplete.as_slice())?;
+        add_names(alloc, &mut tags, u.incomplete.as_slice())?;
     }
-    Ok(names)
+    Ok(tags)
 }

@@ -7,5 +7,5 @@ use Rattle.c_link.proofs.linking.link.Goals as goal
 
 pub returns-in-Err : goal.returns-in-Err
 returns-in-Err c =
-    let e : c.as_slice.result.now ≡ c.args.units = search rules in
+    let e : c.as_slice-2.result.now ≡ c.args.units = search rules in
     subst (λ (units : List Unit). Fails (IsGap (map unit_data units)) c.in-Err.gap) e c.in-Err.ensures

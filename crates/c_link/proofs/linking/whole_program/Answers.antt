@@ -1,5 +1,5 @@
 use Rattle.std.proofs.Common.{◌≡◌, ap, map, subst, sym, rules}
-use Rattle.c_joining.specs.Joining.{all_tags, joined}
+use Rattle.c_joining.specs.Joining.{joined}
 use Rattle.c_typed.specs.Programs.{ProgramData, program_data, unit_data}
 use Rattle.c_types.specs.Limits.{AreComplete}
 use Rattle.c_link.specs.Counting.{AreMeasured}
@@ -11,9 +11,8 @@ pub returns-in-Err : goal.returns-in-Err
 returns-in-Err c =
     let units = map unit_data c.args.units in
     let p = program_data c.in_ok-p.p in
-    let e : c.as_slice-2.result.now ≡ all_tags units = search rules in
     let f : p ≡ joined units = search rules in
-    lack_is_gap units c.as_slice-2.result.now p c.in-Err.gap c.requires.agree e f c.in-Err.ensures
+    lack_is_gap units c.args.tags.now p c.in-Err.gap c.requires.agree c.requires.tags f c.in-Err.ensures
 
 pub within_limits-requires : goal.within_limits-requires
 within_limits-requires c =

@@ -7,6 +7,6 @@ use Rattle.c_link.proofs.tag_names.add_complete.Given as goal
 
 abbrev pub invariant-loop-u : goal.invariant-loop-u
 invariant-loop-u l = record {
-  names : fold with_key l.names (flat_map complete_in (map unit_data (drop l.u-index l.units))) ≡ fold with_key l.initial.names (flat_map complete_in (map unit_data l.units));
-  keys : l.keys ≡ l.names;
+  names : fold with_key l.tags.names (flat_map complete_in (map unit_data (drop l.u-index l.units))) ≡ fold with_key l.initial.tags.names (flat_map complete_in (map unit_data l.units));
+  keys : l.tags.keys ≡ l.tags.names;
 }
