@@ -86,23 +86,13 @@ fn add_functions(
 fn are_objects_defined(objects: &[Object]) -> bool
     ensures { IsTrue result → All (λ o. is_some o.initial ≡ true) objects.now }
 {
-    for o in objects {
-        if o.initial.is_none() {
-            return false;
-        }
-    }
-    true
+    objects.iter().all(|o| o.initial.is_some())
 }
 
 fn are_functions_defined(functions: &[Function]) -> bool
     ensures { IsTrue result → All (λ f. is_some f.body ≡ true) functions.now }
 {
-    for f in functions {
-        if f.body.is_none() {
-            return false;
-        }
-    }
-    true
+    functions.iter().all(|f| f.body.is_some())
 }
 
 /// The objects and functions that are used and not defined. Where all are defined, nothing has to be asked of the trees.

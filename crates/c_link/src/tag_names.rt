@@ -1,7 +1,7 @@
 //! The tags of a program's structures, by their numbers.
 
-ghost use Rattle.std.specs.Prelude.{◌≡◌, IfOk, OnOk, flat_map, fold, map};
-ghost use Rattle.c_joining.specs.Joining.{all_tags, complete_in};
+ghost use Rattle.std.specs.Prelude.{◌≡◌, IfOk, OnOk, fold, map};
+ghost use Rattle.c_joining.specs.Joining.{all_tags};
 ghost use Rattle.c_typed.specs.Programs.{unit_data};
 ghost use Rattle.c_numbers.specs.KeyNumbers.Keys.{with_key};
 
@@ -56,18 +56,6 @@ fn add_names(alloc: Global, tags: &mut Tags, all: &[Name]) -> Result<(), NoMemor
     Ok(())
 }
 
-/// Adds the tags of the structures that units complete.
-fn add_complete(alloc: Global, tags: &mut Tags, units: &[Unit]) -> Result<(), NoMemory>
-    requires { tags.old.keys ≡ tags.old.names }
-    ensures names { OnOk result (tags.new.names ≡ fold with_key tags.old.names (flat_map complete_in (map unit_data units.now))) }
-    ensures keys { OnOk result (tags.new.keys ≡ tags.new.names) }
-{
-    for u in units {
-        add_tags(alloc, tags, u.records.as_slice())?;
-    }
-    Ok(())
-}
-
 /// The tags of the units' structures, those first that a unit completes.
 pub fn tags_of(alloc: Global, units: &[Unit]) -> Result<Tags, NoMemory>
     ensures names { IfOk result (λ tags. tags.names ≡ all_tags (map unit_data units.now)) }
@@ -77,7 +65,9 @@ pub fn tags_of(alloc: Global, units: &[Unit]) -> Result<Tags, NoMemory>
         keys: KeyTable::new(alloc),
         names: List::new(alloc),
     };
-    add_complete(alloc, &mut tags, units)?;
+    for u in units {
+        add_tags(alloc, &mut tags, u.records.as_slice())?;
+    }
     for u in units {
         add_names(alloc, &mut tags, u.incomplete.as_slice())?;
     }
