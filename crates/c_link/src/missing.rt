@@ -2,7 +2,7 @@
 
 ghost use Rattle.std.specs.Prelude.{◌≡◌, ◌++◌, true, All, IfOk, IsTrue, MatchOption, OnOk, is_some, map};
 ghost use Rattle.c_link.specs.Clashes.{trouble_of};
-ghost use Rattle.c_link.specs.Gaps.{HasNone, IsEarliest, IsMissing, all_missing};
+ghost use Rattle.c_link.specs.Gaps.{HasNone, IsEarliest, IsMissing, all_missing, all_references};
 ghost use Rattle.c_link.specs.Missing.{functions_nowhere, key_of, keys_of, objects_nowhere};
 ghost use Rattle.c_typed.specs.Programs.{data_of, program_data};
 ghost use Rattle.c_link.specs.TreeUses.Uses.{reference_of};
@@ -28,7 +28,6 @@ fn key_of(alloc: Global, reference: Reference) -> Result<Vec<u32>, NoMemory>
     copied(alloc, &key)
 }
 
-/// What is referred to, each once.
 fn keys_of(alloc: Global, all: &[Reference]) -> Result<KeyTable, NoMemory>
     ensures { IfOk result (λ used. used ≡ keys_of (map reference_of all.now)) }
 {
@@ -37,6 +36,14 @@ fn keys_of(alloc: Global, all: &[Reference]) -> Result<KeyTable, NoMemory>
         used.add(key_of(alloc, *reference)?)?;
     }
     Ok(used)
+}
+
+/// What a program refers to, each once.
+fn used_by(alloc: Global, p: &Typed) -> Result<KeyTable, NoMemory>
+    ensures { IfOk result (λ used. used ≡ keys_of (all_references (program_data p.now))) }
+{
+    let held = held_by(alloc, p)?;
+    keys_of(alloc, held.references.as_slice())
 }
 
 #[tactic(auto, using(crate::proofs::MissingNames::among_is))]
@@ -99,12 +106,11 @@ fn are_functions_defined(functions: &[Function]) -> bool
 fn all_missing(alloc: Global, p: &Typed) -> Result<List<Trouble>, NoMemory>
     ensures { IfOk result (λ missing. map trouble_of missing ≡ all_missing (program_data p.now)) }
 {
-    let mut missing = List::new(alloc);
     if are_objects_defined(p.objects.as_slice()) && are_functions_defined(p.functions.as_slice()) {
-        return Ok(missing);
+        return Ok(List::new(alloc));
     }
-    let held = held_by(alloc, p)?;
-    let used = keys_of(alloc, held.references.as_slice())?;
+    let used = used_by(alloc, p)?;
+    let mut missing = List::new(alloc);
     add_objects(alloc, &used, p.objects.as_slice(), &mut missing)?;
     add_functions(alloc, &used, p.functions.as_slice(), &mut missing)?;
     Ok(missing)

@@ -12,7 +12,7 @@ returns-then-are_functions_defined c =
     let p = c.args.p.now in
     let objects : All (λ o. is_some o.initial ≡ true) p.objects = search rules in
     let functions : All (λ f. is_some f.body ≡ true) p.functions = search rules in
-    ap (map trouble_of) c.new-missing.ensures ∙ none_missing (program_data p) objects (have_bodies p.functions functions)
+    ap (map trouble_of) c.new.ensures ∙ none_missing (program_data p) objects (have_bodies p.functions functions)
 
 pub returns : goal.returns
 returns c =
