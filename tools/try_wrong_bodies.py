@@ -76,6 +76,8 @@ def texts_with(edit, folder):
                 old = text
             elif word == "new":
                 if path not in texts:
+                    if not os.path.isfile(os.path.join(folder, path)):
+                        return None, f"there is no file {path}"
                     with open(os.path.join(folder, path)) as file:
                         texts[path] = file.read()
                 if texts[path].count(old) != 1:
