@@ -18,32 +18,32 @@ pub struct FieldWeights {
 
 impl FieldWeights {
     /// Whether the value of the field of that number is ever loaded.
-    pub fn is_read(&self, field: u32) -> bool
+    pub fn is_read(&self, field: usize) -> bool
         ensures { result ≡ is_read_in self.now field }
     {
-        match self.read.get(field as usize) {
+        match self.read.get(field) {
             Some(read) => *read,
             None => false,
         }
     }
 
     /// How often the field of that number is accessed.
-    pub fn hotness(&self, field: u32) -> u128
+    pub fn hotness(&self, field: usize) -> u128
         ensures { result ≡ hotness_in self.now field }
     {
-        match self.hotness.get(field as usize) {
+        match self.hotness.get(field) {
             Some(sum) => *sum,
             None => 0,
         }
     }
 
     /// How often the fields of these numbers are accessed together.
-    pub fn affinity(&self, one: u32, other: u32) -> u128
+    pub fn affinity(&self, one: usize, other: usize) -> u128
         ensures { result ≡ affinity_in self.now one other }
     {
-        match self.affinity.get(one as usize) {
+        match self.affinity.get(one) {
             None => 0,
-            Some(sums) => match sums.get(other as usize) {
+            Some(sums) => match sums.get(other) {
                 Some(sum) => *sum,
                 None => 0,
             },

@@ -13,7 +13,7 @@ use crate::weights::Weights;
 use lay_base::{List, NoMemory, add};
 use std::alloc::Global;
 
-fn own(alloc: Global, of: u32, all: &[Access]) -> Result<List<Access>, NoMemory>
+fn own(alloc: Global, of: usize, all: &[Access]) -> Result<List<Access>, NoMemory>
     ensures { IfOk result (λ those. those ≡ own of all.now) }
 {
     let mut those = List::new(alloc);
@@ -38,7 +38,7 @@ fn kept<T: Copy>(alloc: Global, marks: &[bool], items: &[T]) -> Result<List<T>, 
     Ok(those)
 }
 
-fn reads(alloc: Global, of: u32, count: u32, all: &List<Access>) -> Result<List<bool>, NoMemory>
+fn reads(alloc: Global, of: usize, count: usize, all: &List<Access>) -> Result<List<bool>, NoMemory>
     ensures { IfOk result (λ reads. reads ≡ map (λ f. is_read of f all.now) (numbers_below count)) }
 {
     let mut reads = List::new(alloc);
@@ -51,8 +51,8 @@ fn reads(alloc: Global, of: u32, count: u32, all: &List<Access>) -> Result<List<
 fn sums(
     alloc: Global,
     groups: &List<u64>,
-    of: u32,
-    count: u32,
+    of: usize,
+    count: usize,
     all: &List<Access>,
 ) -> Result<List<u128>, NoMemory>
     ensures { IfOk result (λ sums. sums ≡ map (λ f. hotness groups.now of f all.now) (numbers_below count)) }
@@ -68,8 +68,8 @@ fn sums(
 fn columns(
     alloc: Global,
     marks: &List<bool>,
-    of: u32,
-    count: u32,
+    of: usize,
+    count: usize,
     all: &List<Access>,
 ) -> Result<List<List<bool>>, NoMemory>
     ensures { IfOk result (λ columns. columns ≡
@@ -119,8 +119,8 @@ fn rows(
 fn affinities(
     alloc: Global,
     groups: &List<u64>,
-    of: u32,
-    count: u32,
+    of: usize,
+    count: usize,
     all: &List<Access>,
 ) -> Result<List<List<u128>>, NoMemory>
     ensures { IfOk result (λ rows. rows ≡
@@ -133,7 +133,12 @@ fn affinities(
 }
 
 /// How often each of the first fields of a record is accessed.
-pub fn hotnesses(alloc: Global, w: &Weights, of: u32, count: u32) -> Result<List<u128>, NoMemory>
+pub fn hotnesses(
+    alloc: Global,
+    w: &Weights,
+    of: usize,
+    count: usize,
+) -> Result<List<u128>, NoMemory>
     ensures { IfOk result (λ all. all ≡ hotnesses w.now of count) }
 {
     let all = own(alloc, of, w.accesses.as_slice())?;
@@ -144,8 +149,8 @@ pub fn hotnesses(alloc: Global, w: &Weights, of: u32, count: u32) -> Result<List
 pub fn field_weights(
     alloc: Global,
     w: &Weights,
-    of: u32,
-    count: u32,
+    of: usize,
+    count: usize,
 ) -> Result<FieldWeights, NoMemory>
     ensures { IfOk result (λ it. it ≡ field_weights w.now of count) }
 {

@@ -10,7 +10,7 @@ use lay_base::{List, NoMemory, filled};
 use std::alloc::Global;
 
 /// How often a field is accessed, by the weights of groups.
-pub fn hotness(groups: &[u64], of: u32, field: u32, all: &[Access]) -> u128
+pub fn hotness(groups: &[u64], of: usize, field: usize, all: &[Access]) -> u128
     ensures { result ≡ hotness groups.now of field all.now }
 {
     let mut sum: u128 = 0;
@@ -23,7 +23,7 @@ pub fn hotness(groups: &[u64], of: u32, field: u32, all: &[Access]) -> u128
 }
 
 /// Whether the value of a field is ever loaded.
-pub fn is_read(of: u32, field: u32, all: &[Access]) -> bool
+pub fn is_read(of: usize, field: usize, all: &[Access]) -> bool
     ensures { result ≡ is_read of field all.now }
 {
     for a in all {
@@ -52,7 +52,7 @@ fn mark_group(marks: &mut [bool], group: usize)
     }
 }
 
-fn mark(marks: &mut [bool], of: u32, field: u32, a: Access)
+fn mark(marks: &mut [bool], of: usize, field: usize, a: Access)
     ensures { marks.new ≡ marked of field marks.old a }
 {
     if is_to(a, of, field) {
@@ -60,7 +60,7 @@ fn mark(marks: &mut [bool], of: u32, field: u32, a: Access)
     }
 }
 
-fn mark_all(marks: &mut [bool], of: u32, field: u32, all: &[Access])
+fn mark_all(marks: &mut [bool], of: usize, field: usize, all: &[Access])
     ensures { marks.new ≡ fold (marked of field) marks.old all.now }
 {
     for a in all {
@@ -86,8 +86,8 @@ fn unmarked(alloc: Global, groups: usize) -> Result<List<bool>, NoMemory>
 /// Which groups access a field.
 pub fn touched(
     alloc: Global,
-    of: u32,
-    field: u32,
+    of: usize,
+    field: usize,
     groups: usize,
     all: &[Access],
 ) -> Result<List<bool>, NoMemory>

@@ -86,7 +86,7 @@ fn close_loop(walk: &mut Walk)
     }
 }
 
-fn site(walk: &mut Walk, of: u32, field: u32, is_read: bool)
+fn site(walk: &mut Walk, of: usize, field: usize, is_read: bool)
     ensures { Walks walk.old walk.new (F.Site of field is_read ∷ []) }
 {
     if walk.want.is_some() {

@@ -82,11 +82,9 @@ at_last slots slot b = ⊎_elim (λ lt. inl (lt, get_or_append_left slots (slot 
 no_slot_dead : {A : Type 0} (s : Slot) → s ≡ no_slot → s.live ≡ true → A
 no_slot_dead s e lives = let wrong : false ≡ true = sym (ap (λ s. s.live) e) ∙ lives in cc
 
-pub sound_begun : (slots all_slots : List Slot) (all new : List Cell) (free count : ℕ) (slot : Slot) → IsSound slots all free → length slots + 1 < 2 ^ 32
-    → slot.start ≡ free → count ≡ words_for slot.size → free + count < 2 ^ 29 → 4 * (free + count) ≤ length new → length all ≤ length new
+pub sound_begun : (slots all_slots : List Slot) (all new : List Cell) (free count : ℕ) (slot : Slot) → IsSound slots all free → slot.start ≡ free → count ≡ words_for slot.size → free + count < 2 ^ 29 → 4 * (free + count) ≤ length new → length all ≤ length new
     → all_slots ≡ slots ++ slot ∷ [] → IsSound all_slots new (free + count)
-sound_begun slots all_slots all new free count slot sound few at_free ec small room long es = rw es (record {
-  few = omega (arith, few, length_push slots slot);
+sound_begun slots all_slots all new free count slot sound at_free ec small room long es = rw es (record {
   small = small;
   within = room;
   there = λ b lives. there_of b lives (at_last slots slot b);
@@ -128,7 +126,6 @@ was_other slots b k s dead known lives = ⊎_elim
 pub sound_ended : (slots other : List Slot) (all new : List Cell) (free b : ℕ) (s : Slot) → IsSound slots all free → b < length slots → s.live ≡ false
     → other ≡ set slots b s → length new ≡ length all → IsSound other new free
 sound_ended slots other all new free b s sound known dead es long = rw es (record {
-  few = let was = sound.few in omega (arith, was, length-set slots b s);
   small = sound.small;
   within = let was = sound.within in omega (arith, was, long);
   there = λ k lives. let o = was_other slots b k s dead known lives in
@@ -146,7 +143,6 @@ pub sound_given : (slots other : List Slot) (all new : List Cell) (free b : ℕ)
     → IsSound other new (slot_at slots b).start
 sound_given slots other all new free b s sound known dead es long held last =
     let after : IsSound other new free = sound_ended slots other all new free b s sound known dead es long in record {
-      few = after.few;
       small = let was = sound.small in omega (arith, was, last);
       within = let was = after.within in omega (arith, was, last);
       there = after.there;

@@ -150,7 +150,6 @@ module _ (slots other : List Slot) (all new : List Cell) (free block to : ℕ) (
 
   pub lowered_sound : IsSound other new free
   lowered_sound = record {
-    few = let few = sound.few in omega (arith, few, many);
     small = sound.small;
     within = let within = sound.within in omega (arith, within, shift.long);
     there = λ k lives. there_of k lives (cases_eq k block);
@@ -220,7 +219,6 @@ gathered_there slots all free block to sound gathered held le =
 
 pub sound_gathered : (slots : List Slot) (all : List Cell) (free to : ℕ) → IsSound slots all free → IsGathered slots (length slots) to → to ≤ free → IsSound slots all to
 sound_gathered slots all free to sound gathered le = record {
-  few = sound.few;
   small = let small = sound.small in omega (arith, small, le);
   within = let within = sound.within in omega (arith, within, le);
   there = sound.there;

@@ -6,6 +6,7 @@ pub mod Differences
 pub mod Flat
 pub mod Gathering
 pub mod Hold
+pub mod Near
 pub mod Overs
 pub mod RangesHold
 pub mod Reached

@@ -17,7 +17,6 @@ no_holds b held = let wrong : false ≡ true = ap holds (sym (get_or_past [] b n
 
 pub sound_none : (slots : List Slot) (cells : List Cell) → slots ≡ [] → cells ≡ [] → IsSound slots cells 0
 sound_none slots cells es ec = rw (es, ec) (record {
-  few = omega arith;
   small = omega arith;
   within = omega arith;
   there = λ b lives. no_live b lives;
@@ -27,7 +26,6 @@ sound_none slots cells es ec = rw (es, ec) (record {
 
 pub sound_long : (slots : List Slot) (cells new : List Cell) (free : ℕ) → IsSound slots cells free → length cells ≤ length new → IsSound slots new free
 sound_long slots cells new free sound le = record {
-  few = sound.few;
   small = sound.small;
   within = let was = sound.within in omega (arith, was, le);
   there = λ b lives. let was = sound.there b lives in omega (arith, was, le);

@@ -55,7 +55,6 @@ memory_in slots cells = map (block_in cells) slots
 
 -- what always holds: the cells of live blocks are there, apart from each other, in the order of the blocks, and before the first free word
 pub record IsSound (slots : List Slot) (cells : List Cell) (free : ℕ) : Type 0 where
-  pub few : length slots < 2 ^ 32
   pub small : free < 2 ^ 29
   pub within : 4 * free ≤ length cells
   pub there : (b : ℕ) → (slot_at slots b).live ≡ true → 4 * (slot_at slots b).start + (slot_at slots b).size ≤ length cells

@@ -25,7 +25,7 @@ impl Store {
 
     /// Loads a pointer of a type.
     #[tactic(auto, using(crate::proofs::Reached::load_pointer_ok, crate::proofs::Reached::load_pointer_err))]
-    pub fn load_pointer(&self, p: Ptr, type_number: u32) -> Result<Ptr, UndefinedKind>
+    pub fn load_pointer(&self, p: Ptr, type_number: usize) -> Result<Ptr, UndefinedKind>
         ensures { result ≡ load_pointer (memory_of self.now) p type_number }
     {
         match self.place(p, 4, 4, false) {
@@ -49,7 +49,7 @@ impl Store {
     }
 
     /// Stores a pointer of a type.
-    pub fn store_pointer(&mut self, p: Ptr, type_number: u32, q: Ptr) -> Result<(), UndefinedKind>
+    pub fn store_pointer(&mut self, p: Ptr, type_number: usize, q: Ptr) -> Result<(), UndefinedKind>
         ensures { Does result (memory_of self.old) (memory_of self.new) (store_pointer (memory_of self.old) p type_number q) }
     {
         match self.place(p, 4, 4, true) {

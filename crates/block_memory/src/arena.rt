@@ -128,7 +128,7 @@ impl Arena {
 
     /// The pointer of a type from an offset on, cell by cell.
     #[tactic(auto, using(crate::proofs::CellsHold::pointer_of_four))]
-    fn pointer_by_cells(&self, at: usize, type_number: u32) -> Result<Ptr, UndefinedKind>
+    fn pointer_by_cells(&self, at: usize, type_number: usize) -> Result<Ptr, UndefinedKind>
         requires within { at + 4 ≤ length self.now }
         requires small { at < 2 ^ 34 }
         ensures { result ≡ pointer_at self.now at type_number }
@@ -141,7 +141,7 @@ impl Arena {
     }
 
     /// The pointer of a type from an offset on.
-    pub(crate) fn pointer(&self, at: usize, type_number: u32) -> Result<Ptr, UndefinedKind>
+    pub(crate) fn pointer(&self, at: usize, type_number: usize) -> Result<Ptr, UndefinedKind>
         requires within { at + 4 ≤ length self.now }
         requires small { at < 2 ^ 34 }
         ensures { result ≡ pointer_at self.now at type_number }
@@ -193,7 +193,7 @@ impl Arena {
 
     /// Puts the fragments of a pointer from an offset on.
     #[tactic(auto, using(crate::proofs::Flat::four_put, crate::proofs::Flat::within))]
-    pub(crate) fn put_pointer(&mut self, at: usize, type_number: u32, p: Ptr)
+    pub(crate) fn put_pointer(&mut self, at: usize, type_number: usize, p: Ptr)
         requires within { at + 4 ≤ length self.old }
         requires small { at < 2 ^ 34 }
         ensures { self.new ≡ over self.old at (fragments_of type_number p) }

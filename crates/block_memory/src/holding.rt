@@ -35,7 +35,7 @@ pub(crate) fn pointer_of(
     b: Cell,
     c: Cell,
     d: Cell,
-    type_number: u32,
+    type_number: usize,
 ) -> Result<Ptr, UndefinedKind>
     ensures { result ≡ held (a ∷ b ∷ c ∷ d ∷ []) (pointer_in type_number (a ∷ b ∷ c ∷ d ∷ [])) }
 {

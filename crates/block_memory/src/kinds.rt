@@ -20,5 +20,5 @@ pub enum BlockKind {
 pub enum Access {
     Number(IntKind),
     /// A pointer, with the number of its pointer type.
-    Pointer(u32),
+    Pointer(usize),
 }

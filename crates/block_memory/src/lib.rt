@@ -7,9 +7,9 @@
 //!
 //! Not proved: how long anything takes. A load or store of four bytes or of a pointer goes to one word; shorter numbers go to it once for each byte. Fills go
 //! word by word, and so do copies where both ranges begin at a multiple of four; other copies, and comparisons, go cell by cell. Nor how much memory is taken:
-//! 8 bytes for each block that was made; 8 for each four bytes of a live block; 20 for each pointer other than null that is kept at a multiple of four, and 84
-//! for any other four cells with a part of a pointer. Words of blocks that have ended wait for others, and are never given back before the store is. More
-//! than 2^29 words are refused.
+//! 8 bytes for each block that was made, in a list that may have room for twice as many; 8 for each four bytes of a live block; 20 for each pointer other than
+//! null that is kept at a multiple of four, and 100 for any other four cells with a part of a pointer. Words of blocks that have ended wait for others, and are
+//! never given back before the store is.
 #![tactic(auto)]
 
 mod accesses;

@@ -1,9 +1,10 @@
 //! When blocks begin and end.
 
-ghost use Rattle.std.specs.Prelude.{◌≡◌, ◌∷◌, [], ◌<◌, ◌^◌, IfOk};
+ghost use Rattle.std.specs.Prelude.{◌≡◌, ◌∷◌, [], ◌+◌, ◌<◌, ◌^◌};
 ghost use Rattle.memory_words.specs.declared.cell_words.cell.Cell.TheVariants.{Byte};
 ghost use Rattle.block_memory.specs.Blocks.{size, with_cells};
 ghost use Rattle.block_memory.specs.Lifetimes.{free, is_heap, with_end};
+ghost use Rattle.block_memory.specs.RunWorlds.Worlds.{live_bytes};
 ghost use Rattle.block_memory.specs.Stores.{AllocGives, Does};
 ghost use Rattle.block_memory.specs.View.{memory_of};
 
@@ -26,15 +27,12 @@ fn is_heap(kind: BlockKind) -> bool
 }
 
 impl Store {
-    /// A new block that holds nothing: its number.
+    /// A new block that holds nothing: its number. Few bytes live with it, so that its cells have a place.
     pub fn alloc(&mut self, alloc: Global, size: u32, kind: BlockKind) -> Result<u64, NoMemory>
+        requires { live_bytes (memory_of self.old) + size < 2 ^ 29 }
         ensures gives { AllocGives (memory_of self.old) (memory_of self.new) size kind result }
-        ensures few { IfOk result (λ b. b < 2 ^ 32) }
     {
         let number = self.slots.len();
-        if number >= u32::MAX as usize {
-            return Err(NoMemory::unearned());
-        }
         let count = words_for(size);
         self.make_room(count)?;
         let slot = Slot {

@@ -1,7 +1,9 @@
 //! Room for new blocks: live ones are moved together where much of what lies between them is of blocks that have ended.
 
 ghost use Rattle.std.specs.Prelude.{◌≡◌, ◌<◌, ◌≤◌, ◌+◌, ◌*◌, ◌^◌, true, length, OnOk};
+ghost use Rattle.block_memory.specs.Blocks.{block as block_at};
 ghost use Rattle.block_memory.specs.Moves.{IsGathered};
+ghost use Rattle.block_memory.specs.RunWorlds.Worlds.{live_bytes, live_in};
 ghost use Rattle.block_memory.specs.Slots.{holds, slot_at, words_for};
 ghost use Rattle.block_memory.specs.View.{memory_of};
 
@@ -22,7 +24,7 @@ impl Store {
         ensures many { length self.new.slots ≡ length self.old.slots }
         ensures free { self.new.free ≡ self.old.free }
         ensures within { result ≤ self.new.free }
-        ensures further { to ≤ result }
+        ensures further { result ≡ to + words_for (slot_at self.old.slots block).size }
         ensures settled { self.new.settled ≡ self.old.settled }
         ensures words { self.new.settled_words ≡ self.old.settled_words }
     {
@@ -53,6 +55,7 @@ impl Store {
         ensures free { self.new.free ≡ self.old.free }
         ensures within { result ≤ self.new.free }
         ensures further { to ≤ result }
+        ensures near { result ≤ to + live_in (block_at (memory_of self.old) block).contents }
         ensures settled { self.new.settled ≡ self.old.settled }
         ensures words { self.new.settled_words ≡ self.old.settled_words }
     {
@@ -70,6 +73,8 @@ impl Store {
     fn gather(&mut self)
         ensures memory { memory_of self.new ≡ memory_of self.old }
         ensures many { length self.new.slots ≡ length self.old.slots }
+        ensures less { self.new.free ≤ self.old.free }
+        ensures near { self.new.free ≤ self.old.settled_words + live_bytes (memory_of self.old) }
     {
         let many = self.slots.len() as u64;
         let mut to = self.settled_words;
@@ -80,6 +85,17 @@ impl Store {
         self.ended = 0;
         self.settled = many;
         self.settled_words = to;
+    }
+
+    /// Moves the cells of all live blocks together, whatever lies so: they take no more words than bytes live.
+    fn gather_all(&mut self)
+        ensures memory { memory_of self.new ≡ memory_of self.old }
+        ensures many { length self.new.slots ≡ length self.old.slots }
+        ensures near { self.new.free ≤ live_bytes (memory_of self.old) }
+    {
+        self.settled = 0;
+        self.settled_words = 0;
+        self.gather();
     }
 
     /// Whether so much lies unused between live blocks that moving them together takes no more time than was taken to make what has ended.
@@ -103,15 +119,12 @@ impl Store {
 
     /// So many words behind all live blocks, which stay where they are.
     fn extend(&mut self, count: usize) -> Result<(), NoMemory>
-        requires { count ≤ 2 ^ 30 }
+        requires { self.old.free + count < 2 ^ 29 }
         ensures memory { memory_of self.new ≡ memory_of self.old }
         ensures many { length self.new.slots ≡ length self.old.slots }
         ensures enough { OnOk result ((4 * (self.new.free + count) ≤ length self.new.arena) × (self.new.free + count < 2 ^ 29)) }
     {
         let end = self.free + count;
-        if end >= WORDS {
-            return Err(NoMemory::unearned());
-        }
         let words = self.arena.words();
         if end <= words {
             return Ok(());
@@ -121,12 +134,15 @@ impl Store {
 
     /// So many words behind all live blocks.
     pub(crate) fn make_room(&mut self, count: usize) -> Result<(), NoMemory>
-        requires { count ≤ 2 ^ 30 }
+        requires { live_bytes (memory_of self.old) + count < 2 ^ 29 }
         ensures memory { memory_of self.new ≡ memory_of self.old }
         ensures many { length self.new.slots ≡ length self.old.slots }
         ensures enough { OnOk result ((4 * (self.new.free + count) ≤ length self.new.arena) × (self.new.free + count < 2 ^ 29)) }
     {
-        if self.free + count > self.arena.words() && self.is_sparse() {
+        let end = self.free + count;
+        if end >= WORDS {
+            self.gather_all();
+        } else if end > self.arena.words() && self.is_sparse() {
             self.gather();
         }
         self.extend(count)

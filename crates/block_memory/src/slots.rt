@@ -5,15 +5,14 @@ ghost use Rattle.block_memory.specs.Slots.{slot_at};
 
 use crate::kinds::BlockKind;
 use crate::slot::{CompactSlot, Slot, compact, expanded};
-use lay_base::NoMemory;
-use memory_words::PagedList;
+use lay_base::{NoMemory, push};
 use std::alloc::Global;
 use std::marker::Model;
 
 /// What is kept of each block, in the order of their numbers.
 #[derive(Drop)]
 pub(crate) struct Slots {
-    items: PagedList<CompactSlot>,
+    items: Vec<CompactSlot>,
 }
 
 impl Model for Slots {
@@ -32,7 +31,7 @@ impl Slots {
         ensures { result ≡ [] }
     {
         Slots {
-            items: PagedList::new(alloc),
+            items: Vec::new(alloc),
         }
     }
 
@@ -51,7 +50,7 @@ impl Slots {
         ensures small { result.start < 2 ^ 29 }
     {
         if block < self.items.len() as u64 {
-            expanded(self.items.get(block as usize))
+            expanded(self.items[block as usize])
         } else {
             Slot {
                 kind: BlockKind::Local,
@@ -69,18 +68,15 @@ impl Slots {
         requires small { slot.start < 2 ^ 29 }
         ensures { self.new ≡ slice_set self.old block slot }
     {
-        self.items.set(block as usize, compact(slot));
+        self.items[block as usize] = compact(slot);
     }
 
     /// A slot behind all others.
     #[tactic(auto, using(crate::proofs::Slotting::slot_push))]
     pub(crate) fn push(&mut self, slot: Slot) -> Result<(), NoMemory>
-        requires many { length self.old < 2 ^ 32 }
-        requires small { slot.start < 2 ^ 29 }
+        requires { slot.start < 2 ^ 29 }
         ensures { MatchResult result (λ _. self.new ≡ self.old ++ slot ∷ []) (λ refused. self.new ≡ self.old) }
     {
-        self.items.reserve(1)?;
-        self.items.push_reserved(compact(slot));
-        Ok(())
+        push(&mut self.items, compact(slot))
     }
 }

@@ -30,7 +30,7 @@ pub enum ExpressionNode {
     /// A null pointer.
     Null,
     /// A pointer to the function of that number.
-    FunctionName(u32),
+    FunctionName(usize),
     /// The value of a number or a pointer in memory.
     Load(Boxed<Path>),
     AddressOf(Boxed<Path>),
@@ -57,12 +57,12 @@ pub enum ExpressionNode {
     /// A whole record is assigned: to, from.
     CopyRecord(Boxed<Path>, Boxed<Path>),
     /// A call of the function of that number.
-    Call(u32, List<Expression>),
+    Call(usize, List<Expression>),
     /// A call through a pointer to a function.
     CallThrough(Boxed<Expression>, List<Expression>),
     Library(LibraryFunction, List<Expression>),
     /// An allocation of records: the record's number, how many where that is written, and whether all bytes are zero.
-    Allocate(u32, Option<Boxed<Expression>>, bool),
+    Allocate(usize, Option<Boxed<Expression>>, bool),
 }
 
 /// The way to an object, or to a part of one.
@@ -78,15 +78,15 @@ pub struct Path {
 #[derive(Drop)]
 pub enum PathNode {
     /// A local of the function, by its number; parameters come first.
-    Named(u32),
+    Named(usize),
     /// An object of the file, by its number.
-    Object(u32),
+    Object(usize),
     /// What a pointer points to.
     Deref(Boxed<Expression>),
     /// A subscript on a pointer.
     Index(Boxed<Expression>, Boxed<Expression>),
     /// A field of a record: the record's number, and the field's in it.
-    Member(Boxed<Path>, u32, u32),
+    Member(Boxed<Path>, usize, usize),
     /// A subscript on an array object or an array field.
     Element(Boxed<Path>, Boxed<Expression>),
 }

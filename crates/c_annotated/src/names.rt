@@ -11,12 +11,12 @@ pub enum Entity {
     /// Its value, as the 32 bits of an `int`.
     Enumerator(u32),
     /// An object of the file, by its number.
-    Object(u32, Ty),
+    Object(usize, Ty),
     /// A function of the file, by its number.
-    Function(u32, Ty),
+    Function(usize, Ty),
     LibraryFunction(LibraryFunction),
     /// A parameter or a local of the function around, by its number.
-    Local(u32, Ty),
+    Local(usize, Ty),
     /// A parameter in a declarator, where no function is defined.
     Parameter(Ty),
 }

@@ -8,21 +8,22 @@ use lay_base::{Boxed, Bytes, List};
 #[derive(Drop)]
 pub enum Statement {
     Do(Boxed<Expression>),
-    Block(List<u32>, List<Statement>),
+    Block(List<usize>, List<Statement>),
     /// The declaration of a local is reached.
-    Declare(u32, Option<Initializer>),
+    Declare(usize, Option<Initializer>),
     If(Boxed<Expression>, Boxed<Statement>, Option<Boxed<Statement>>),
     While(Boxed<Expression>, Boxed<Statement>),
     DoWhile(Boxed<Statement>, Boxed<Expression>),
     /// Locals, the statements that declare or begin, condition, step, body.
     For(
-        List<u32>,
+        List<usize>,
         List<Statement>,
         Option<Boxed<Expression>>,
         Option<Boxed<Expression>>,
         Boxed<Statement>,
     ),
-    Switch(Boxed<Expression>, List<u32>, List<Arm>),
+    /// Value, locals, arms.
+    Switch(Boxed<Expression>, List<usize>, List<Arm>),
     Break,
     Continue,
     Return(Option<Boxed<Expression>>),

@@ -11,7 +11,7 @@ pub enum Thing {
     Object(Boxed<Path>),
     Value(Boxed<Expression>),
     /// A function of the file by its number, with its type.
-    Function(Place, u32, Ty),
+    Function(Place, usize, Ty),
     /// The function to which a pointer points.
     FunctionAt(Boxed<Expression>),
     LibraryFunction(Place, LibraryFunction),

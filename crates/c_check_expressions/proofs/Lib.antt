@@ -6,3 +6,4 @@ mod Enumerators
 mod OnValues
 mod Parameters
 mod Specifiers
+mod FieldObjects

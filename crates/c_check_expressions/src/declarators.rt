@@ -90,7 +90,7 @@ fn length_step(
     number: &Option<Boxed<Expression>>,
     file: &mut FileScope,
     scope: Scope,
-    count: u32,
+    count: usize,
     left: u32,
     steps: List<Derivation>,
 ) -> Result<List<Derivation>, Fault>

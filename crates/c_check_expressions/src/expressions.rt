@@ -322,7 +322,7 @@ fn index(
     ensures { Finds thing_of result (subscripted begin.count begin.at left begin.place (thing_of thing) (file_of file.old)
         (λ f. value_at (first (tree_of b.now)) (find (tree_of b.now) (moved (scope_of file.old scope.entry) f))) (array_in (thing_of thing))) file.new }
 {
-    match array_of(thing) {
+    match array_of(alloc, thing) {
         Err(want) => Err(Fault::Memory(want)),
         Ok(Subscripted::Array(p, t)) => match value(alloc, b, file, scope) {
             Err(fault) => Err(fault),

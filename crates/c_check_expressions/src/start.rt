@@ -14,7 +14,7 @@ pub struct Start {
     pub at: u32,
     pub place: Place,
     /// How many records are complete there.
-    pub count: u32,
+    pub count: usize,
 }
 
 /// What begins at a byte.

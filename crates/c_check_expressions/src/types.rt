@@ -158,7 +158,7 @@ fn specified(
 
 /// The definition of a structure (C99 6.7.2.1), whose `struct` stands at `at`.
 #[cycle(finding)]
-#[tactic(auto, using(crate::proofs::Structures::may_begin, crate::proofs::Structures::may_not_begin))]
+#[tactic(auto, using(crate::proofs::Structures::may_begin, crate::proofs::Structures::may_not_begin, crate::proofs::FieldObjects::fields_are_objects))]
 fn structure(
     alloc: Global,
     all: &List<MemberDeclaration>,

@@ -4,8 +4,7 @@
 //! It stands on `c_check_expressions`, which finds the expressions in them, and on `c_initial_values` for constants, sizes and offsets. It promises
 //! that each function answers what the definition of its name in the checker of `c_erasure` says, or that no memory was left.
 //!
-//! Want of memory is also answered where a part begins past 2^32 bytes, where an item's field is not in its record, where a text is no string literal, where an
-//! array has 2^32 elements, and for a 2^32nd local or object; the limits of types and the grammar allow none of the first four.
+//! Not said: that no part begins past 2^32 bytes. Where one does, which the limits of types rule out, more memory is asked for than there can be.
 #![tactic(auto)]
 
 mod block_locals;

@@ -70,7 +70,16 @@ module _ (places : TokensHavePlaces) (first : TreesBeginFirst) (texts : TextsAre
       let is = found_by name bytes items f v tree unwritten h.tags given h.of_tree in
       (with_tags v f, subst (λ n. annotated n v items ≡ Ok (with_tags v f)) h.number is, h.unit)
 
-  -- so it refuses nothing where there is one
+  -- so each unit is that of a file that the checker answers
+  pub unit_found : (number : ℕ) (name bytes : List ℕ) (items : List Trees.Item) (u : UnitData) → IsTreeOf bytes items → ErasesTo number name bytes items u
+      → (v : ℕ → List ℕ) × (g : FileScope) × (annotated number v items ≡ Ok g) × (u ≡ unit_of items g)
+  unit_found number name bytes items u tree h =
+      let names = unwritten_by h.annotated.untagged in
+      let given = tags_unwritten name bytes (structs_in (spell items)) h.annotated.untagged h.tags in
+      let z = found_unit number name bytes items u names tree (λ at. (drop 1 (h.annotated.untagged at), refl)) given h in
+      (names, z.0, z.1, z.2)
+
+  -- it refuses nothing where there is one
   pub none_refused : (number : ℕ) (name bytes : List ℕ) (items : List Trees.Item) (u : UnitData) (v : ℕ → List ℕ) → IsTreeOf bytes items
       → ((at : ℕ) → IsUnwritten (v at)) → AreTags name bytes (structs_in (spell items)) v → ErasesTo number name bytes items u → (e : Fault)
       → annotated number v items ≡ Err e → ⊥

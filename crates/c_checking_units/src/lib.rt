@@ -13,4 +13,4 @@ mod type_limits;
 pub use fault_places::faults_have_places;
 pub use first_stops::faults_break_rules;
 pub use laws::{faults_have_no_unit, units_are_one};
-pub use type_limits::types_are_small;
+pub use type_limits::{arrays_are_small, types_are_small};

@@ -1,7 +1,7 @@
 //! The tokens of a file as they are read: a cursor whose value is the list of what is left, the tests on its front, the
 //! names that typedefs have declared, and operators by their tokens (C99 6.4.6, 6.5, 6.7).
 //!
-//! It stands on `c_lexer`, `c_ast` and `c_grammar`, and on the kit's `indexmap`. It promises of each call what the definition of its name in
+//! It stands on `c_tokens`, `c_ast` and `c_grammar`, and on the kit's `indexmap`. It promises of each call what the definition of its name in
 //! `c_grammar` says of that list.
 #![tactic(auto)]
 

@@ -1,6 +1,6 @@
 mod Kept
 mod Inserted
-mod Texts
 mod Tables
 mod Standing
 mod StepOrder
+mod LargeFields

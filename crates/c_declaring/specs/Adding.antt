@@ -1,12 +1,14 @@
 -- What functions on a file answer, beside what the definitions of the checker say.
-use Rattle.std.specs.Prelude.{◌≡◌, ℕ, true, false, List, length, [], ◌∷◌, ◌++◌, drop, map, take, Result, Option, Some, None, Ok, Err, if◌then◌else◌}
+use Rattle.std.specs.Prelude.{◌≡◌, ℕ, true, false, All, IsTrue, List, length, ◌∷◌, ◌++◌, drop, map, take, Result, Option, Some, None, Ok, Err, if◌then◌else◌}
 use Rattle.std.specs.Borrow.{Bor}
 use Rattle.lay_base.specs.declared.place.Place.{Place}
 use Rattle.lay_base.specs.declared.faults.Rule.TheVariants as R
-use Rattle.c_tokens.specs.declared.token.Token.{Token}
-use Rattle.c_tokens.specs.declared.token.TokenKind.TheVariants as K
 use Rattle.c_types.specs.declared.ty.IntKind.{IntKind}
+use Rattle.c_types.specs.declared.record.Field as Fields
+use Rattle.c_types.specs.declared.record.Record as Records
+use Rattle.c_types.specs.Objects.{is_object}
 use Rattle.c_types.specs.Types.{CType, Field, Record}
+use Rattle.c_types.specs.Views.{type_of}
 use Rattle.c_ast.specs.declared.words.Spelling.{Spelling}
 use Rattle.c_typed.specs.declared.program.MentionKind.TheVariants.{Named, Sizeof}
 use Rattle.c_erasure.specs.Declarators.{Shape, parameter_type}
@@ -32,13 +34,6 @@ use Rattle.c_declaring.specs.declared.structures.Heading.{Heading}
 abbrev pub mentioned : (before : ℕ) → AMention → FileScope → FileScope
 mentioned before m f = record f { mentions = take before f.mentions ++ m ∷ drop before f.mentions }
 
--- ---- string literals
-
--- the tokens are one string literal, from the first byte up to that one
-abbrev pub IsOneText : List Token → ℕ → Type 0
-IsOneText (t ∷ []) end = (t.kind ≡ K.Text) × (t.from ≡ 0) × (t.to ≡ end)
-IsOneText tokens end = ⊥
-
 -- ---- definitions of structures
 
 -- what follows is a definition's, where it may stand
@@ -49,6 +44,10 @@ defining s at x later = if s.is_inside then refused R.Scope at else unless (defi
 abbrev pub Begins : Result Heading Fault → Scope → (at : ℕ) → Option Spelling → Type 0
 Begins (Ok it) s at x = (s.is_inside ≡ false) × (definable s at x (known_tag s x) ≡ None) × (it.tag ≡ tag_text s at x) × (it.place ≡ place_in s at)
 Begins (Err fault) s at x = Fails fault (defining {A = Unit {0}} s at x (Ok tt))
+
+-- the fields are of complete types
+abbrev pub AreObjects : List Records.Record → List Fields.Field → Type 0
+AreObjects records fields = All (λ f. IsTrue (is_object (length records) (type_of f.ty))) fields
 
 -- the record is that of the next number, or an earlier definition completed its structure
 abbrev pub next_or_before : FileScope → (named : ℕ) → Record → Checked CType

@@ -3,9 +3,6 @@
 //!
 //! It stands on `c_scopes` and `c_nodes`, and mirrors the functions of `c_erasure` that look at a file and walk over no tree. It
 //! promises that each answers what the definition of its name says, with the file after it, or that no memory was left.
-//!
-//! Three things are answered with want of memory that the trees of files and the limits of types allow nowhere: a text that is no string literal, a field
-//! that is no complete object, and 2^32 objects or structures. That they come nowhere is not proved here.
 #![tactic(auto)]
 
 mod enumerations;

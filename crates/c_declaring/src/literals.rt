@@ -1,11 +1,9 @@
 //! String literals (C99 6.4.5).
 
-ghost use Rattle.std.specs.Prelude.{◌≡◌, ◌++◌, ◌∷◌, [], IfOk, IsTrue, OnOk, length};
+ghost use Rattle.std.specs.Prelude.{◌≡◌, ◌∷◌, [], IfOk, length};
 ghost use Rattle.c_types.specs.declared.ty.IntKind.TheVariants.{Char};
 ghost use Rattle.c_types.specs.Types.{array, integer};
 ghost use Rattle.c_types.specs.Views.{type_of};
-ghost use Rattle.c_tokens.specs.QuotedScan.{string_bytes};
-ghost use Rattle.c_tokens.specs.Strings.{IsStringLiteral};
 ghost use Rattle.c_erasure.specs.Erasure.{literal_object, literal_of};
 ghost use Rattle.c_erasure.specs.Checking.Declaring.{literal_in, literal_for};
 ghost use Rattle.c_annotated.specs.FileViews.{object_of};
@@ -13,76 +11,34 @@ ghost use Rattle.c_annotated.specs.Views.{initializer_of, thing_of};
 ghost use Rattle.c_typed.specs.Trees.{parts, text};
 ghost use Rattle.c_erasure.specs.Scopes.{in_full};
 ghost use Rattle.c_scopes.specs.Scoping.{scope_of};
-ghost use Rattle.c_declaring.specs.Adding.{IsOneText};
 ghost use Rattle.c_declaring.specs.Finds.{Finds};
 
 use c_annotated::{Initializer, InitializerPart, Object, PartValue, PathNode, Thing};
 use c_ast::Spelling;
-use c_lexer::{LexFault, add_text_bytes, lex, tokens_have_texts};
+use c_lexer::add_text_bytes;
 use c_nodes::{Fault, unmade, way};
 use c_scopes::{FileScope, Purpose, Scope};
-use c_tokens::{Token, TokenKind};
 use c_types::{IntKind, Ty};
 use lay_base::{Bytes, List, Name, NoMemory, Place, add, copied, push, shared};
 use std::alloc::Global;
 
-/// Whether tokens are one string literal, from the first byte up to that one.
-fn is_one_text(all: &[Token], end: usize) -> bool
-    ensures { IsTrue result → IsOneText all.now end }
-{
-    match all {
-        [token] => match token.kind {
-            TokenKind::Text => token.from == 0 && token.to as usize == end,
-            _ => false,
-        },
-        _ => false,
-    }
-}
-
-/// Whether a text is that of a string literal, as each in the tree of a file is.
-#[tactic(auto, using(crate::proofs::Texts::one_text_is_literal))]
-fn is_literal(alloc: Global, text: &[u8]) -> Result<bool, NoMemory>
-    ensures { IfOk result (λ is. IsTrue is → IsStringLiteral text.now) }
-{
-    if text.len() > 4194304 {
-        return Ok(false);
-    }
-    tokens_have_texts();
-    match lex(alloc, text, 0) {
-        Ok(tokens) => Ok(is_one_text(tokens.list.as_slice(), text.len())),
-        Err(LexFault::Memory(want)) => Err(want),
-        Err(_) => Ok(false),
-    }
-}
-
-/// Adds the bytes of a string literal to those of the ones before it. What is no literal stands in no tree of a file, and is refused.
-fn add_literal(alloc: Global, bytes: &mut Vec<u8>, text: &[u8]) -> Result<(), NoMemory>
-    ensures { OnOk result (bytes.new.items ≡ bytes.old.items ++ string_bytes text.now) }
-{
-    if is_literal(alloc, text)? {
-        add_text_bytes(bytes, text)
-    } else {
-        Err(NoMemory::unearned())
-    }
-}
-
-/// The bytes of adjacent string literals, and a zero (C99 6.4.5). Where one is no string literal, want of memory is answered.
+/// The bytes of adjacent string literals, and a zero (C99 6.4.5).
 pub fn literal_bytes(alloc: Global, all: &[Spelling]) -> Result<Bytes, NoMemory>
     ensures { IfOk result (λ bytes. bytes ≡ literal_of all.now) }
 {
     let mut bytes = Vec::new(alloc);
     for x in all {
-        add_literal(alloc, &mut bytes, x.text.as_slice())?;
+        add_text_bytes(&mut bytes, x.text.as_slice())?;
     }
     push(&mut bytes, 0)?;
     Ok(Bytes::of(bytes))
 }
 
 /// The type of an array of characters.
-fn characters(alloc: Global, n: u32) -> Result<Ty, NoMemory>
+fn characters(alloc: Global, n: usize) -> Result<Ty, NoMemory>
     ensures { IfOk result (λ t. type_of t ≡ array (integer Char) n) }
 {
-    Ok(Ty::Array(shared(alloc, Ty::Int(IntKind::Char))?, n))
+    Ok(Ty::Array(shared(alloc, Ty::Int(IntKind::Char))?, n as u64))
 }
 
 /// What an array of characters holds at first.
@@ -119,16 +75,12 @@ fn add_object(
     file: &mut FileScope,
     scope: Scope,
     at: Place,
-    n: u32,
     bytes: Bytes,
 ) -> Result<Thing, Fault>
-    requires { n ≡ length bytes }
     ensures { Finds thing_of result (literal_for in_full (scope_of file.old scope.entry) at bytes) file.new }
 {
-    let number = match u32::try_from(file.objects.len()) {
-        Ok(number) => number,
-        Err(_) => return Err(Fault::Memory(NoMemory::unearned())),
-    };
+    let number = file.objects.len();
+    let n = bytes.len();
     let object = literal_object(alloc, at, characters(alloc, n)?, bytes)?;
     add(&mut file.objects, object)?;
     way(alloc, characters(alloc, n)?, at, PathNode::Object(number))
@@ -146,12 +98,8 @@ pub fn literal(
     ensures { Finds thing_of result (literal_in (scope_of file.old scope.entry) at (literal_of all.now)) file.new }
 {
     let bytes = literal_bytes(alloc, all)?;
-    let n = match u32::try_from(bytes.len()) {
-        Ok(n) => n,
-        Err(_) => return Err(Fault::Memory(NoMemory::unearned())),
-    };
     match scope.purpose {
-        Purpose::InFull => add_object(alloc, file, scope, at, n, bytes),
-        _ => unmade(alloc, at, &characters(alloc, n)?),
+        Purpose::InFull => add_object(alloc, file, scope, at, bytes),
+        _ => unmade(alloc, at, &characters(alloc, bytes.len())?),
     }
 }

@@ -109,7 +109,7 @@ pub fn member(
     file: &mut FileScope,
     scope: Scope,
     before: usize,
-    count: u32,
+    count: usize,
     place: Place,
     d: &Declarator,
     steps: List<Derivation>,
@@ -118,7 +118,7 @@ pub fn member(
     ensures { Finds field_of result (field_in (scope_of file.old scope.entry) before count place (declared_name (declarator_of d.now))
         (file_of file.old) (derivations_of steps) (type_of base.now)) file.new }
 {
-    let base = copy(base)?;
+    let base = copy(alloc, base)?;
     match derived_type(alloc, file, place.at, steps, base) {
         Err(fault) => Err(fault),
         Ok(t) => match object(&file.records, count, place.at, t) {

@@ -67,7 +67,7 @@ pub fn mention(
     match scope.purpose {
         Purpose::TypeAlone => Ok(()),
         _ => {
-            let ty = copy(t)?;
+            let ty = copy(alloc, t)?;
             add_mention(alloc, file, before, Mention { kind, ty, at })
         }
     }

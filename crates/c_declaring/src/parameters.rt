@@ -97,7 +97,7 @@ fn add_name(
     let Some(x) = name_if_any(d) else {
         return Ok(());
     };
-    let entity = Entity::Parameter(copy(t)?);
+    let entity = Entity::Parameter(copy(alloc, t)?);
     let bound = Bound {
         name: name(alloc, x.text.as_slice())?,
         place: x.from,

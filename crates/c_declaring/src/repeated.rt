@@ -99,7 +99,7 @@ impl<'a> Standing<'a> {
         ensures { option_copied result ≡ standing (lent self.now.found.items) x.now }
     {
         match self.names.number_of(x) {
-            Some(place) => found_at(&self.found, place as usize),
+            Some(place) => found_at(&self.found, place),
             None => None,
         }
     }

@@ -47,7 +47,7 @@ pub fn size_of_thing(
     alloc: Global,
     file: &mut FileScope,
     scope: Scope,
-    count: u32,
+    count: usize,
     at: u32,
     from: u32,
     place: Place,
@@ -56,7 +56,7 @@ pub fn size_of_thing(
     ensures { Finds thing_of result (measured_size (scope_of file.old scope.entry) count at from place (file_of file.old) (thing_of thing)) file.new }
 {
     let before = mentions_in(file);
-    match measured(&file.records, count, at, from, &thing) {
+    match measured(alloc, &file.records, count, at, from, &thing) {
         Err(fault) => Err(fault),
         Ok(it) => constant(alloc, file, scope, before, at, place, it),
     }
@@ -69,7 +69,7 @@ pub fn size_of_type(
     file: &mut FileScope,
     scope: Scope,
     before: usize,
-    count: u32,
+    count: usize,
     at: u32,
     place: Place,
     t: Ty,

@@ -25,7 +25,7 @@ pub fn with_step(steps: List<Derivation>, step: Derivation) -> Result<List<Deriv
 pub fn array_step(
     file: &FileScope,
     at: u32,
-    count: u32,
+    count: usize,
     left: u32,
     c: Integer,
     steps: List<Derivation>,

@@ -1,15 +1,14 @@
 //! Definitions of structures (C99 6.7.2.1).
 
-ghost use Rattle.std.specs.Prelude.{◌≡◌, ◌≤◌, All, IsTrue, length, map};
-ghost use Rattle.c_types.specs.Layouts.{size_of};
+ghost use Rattle.std.specs.Prelude.{◌≡◌, ◌≤◌, ◌<◌, All, IsTrue, false, map};
+ghost use Rattle.c_types.specs.Layouts.{size_of, size_of_record};
 ghost use Rattle.c_types.specs.Limits.{greatest_size};
-ghost use Rattle.c_types.specs.Objects.{is_object as object_type};
 ghost use Rattle.c_types.specs.Views.{field_of, record_of, records_of, type_of};
 ghost use Rattle.c_ast.specs.Views.{member_declaration_of, member_declarations_of};
 ghost use Rattle.c_erasure.specs.Broken.{member_names, tag_place as place_of_tag};
 ghost use Rattle.c_erasure.specs.Checking.Declaring.{complete_with, completed_in, place_of_record as record_place, record_if_any};
 ghost use Rattle.c_scopes.specs.Scoping.{file_of, scope_of};
-ghost use Rattle.c_declaring.specs.Adding.{Begins, next_or_before};
+ghost use Rattle.c_declaring.specs.Adding.{AreObjects, Begins, next_or_before};
 ghost use Rattle.c_declaring.specs.Finds.{Finds};
 
 use crate::repeated::repeated;
@@ -17,8 +16,8 @@ use crate::tags::{number_of, place_of};
 use c_ast::{MemberDeclaration, Spelling};
 use c_nodes::{Fault, name};
 use c_scopes::{FileScope, Scope, place_in};
-use c_types::{Field, Record, RecordFault, Records, Ty, checked_size_of, is_object};
-use lay_base::{List, Name, NoMemory, Place, Rule};
+use c_types::{Field, Record, RecordFault, Records, Ty, checked_size_of};
+use lay_base::{List, Name, Place, Rule};
 use std::alloc::Global;
 
 /// The tag of a structure that is defined, and its place.
@@ -68,11 +67,11 @@ fn tag_place(at: u32, x: &Option<Spelling>) -> u32
 }
 
 /// Where the record with that number was defined; 0 where there is none.
-fn record_place(file: &FileScope, number: Option<u32>) -> u32
+fn record_place(file: &FileScope, number: Option<usize>) -> u32
     ensures { result ≡ record_place (record_if_any (file_of file.now).records number) }
 {
     match number {
-        Some(number) => match file.records.as_slice().get(number as usize) {
+        Some(number) => match file.records.as_slice().get(number) {
             Some(record) => record.place.at,
             None => 0,
         },
@@ -80,13 +79,14 @@ fn record_place(file: &FileScope, number: Option<u32>) -> u32
     }
 }
 
-/// Whether all fields are of complete object types within the limit of sizes.
-fn are_objects(records: &Records, fields: &[Field]) -> bool
-    ensures objects { IsTrue result → All (λ f. IsTrue (object_type (length records.now) (type_of f.ty))) fields.now }
-    ensures bounded { IsTrue result → All (λ f. size_of (records_of records.now) (type_of f.ty) ≤ greatest_size) fields.now }
+/// Whether all fields are within the limit of sizes. Where one is not, the record passes it too.
+fn are_bounded(records: &Records, it: &Record) -> bool
+    requires { AreObjects records.now it.now.fields }
+    ensures bounded { IsTrue result → All (λ f. size_of (records_of records.now) (type_of f.ty) ≤ greatest_size) it.now.fields }
+    ensures passed { result ≡ false → greatest_size < size_of_record (records_of records.now) (record_of it.now) }
 {
-    for field in fields {
-        if !is_object(records.len(), &field.ty) || checked_size_of(records, &field.ty).is_none() {
+    for field in it.fields.as_slice() {
+        if checked_size_of(records, &field.ty).is_none() {
             return false;
         }
     }
@@ -95,13 +95,13 @@ fn are_objects(records: &Records, fields: &[Field]) -> bool
 
 /// Adds a record to those that are complete.
 fn define(file: &mut FileScope, it: Record) -> Result<Ty, Fault>
+    requires { AreObjects file.old.records it.fields }
     ensures { Finds type_of result (complete_with (file_of file.old) it.place.at (record_of it)) file.new }
 {
-    // Members are of complete types, and structures are fewer than the bytes of a file.
-    if file.records.len() == u32::MAX || !are_objects(&file.records, it.fields.as_slice()) {
-        return Err(Fault::Memory(NoMemory::unearned()));
-    }
     let at = it.place.at;
+    if !are_bounded(&file.records, &it) {
+        return Err(Fault::TooBig(at));
+    }
     match file.records.add(it) {
         Ok(number) => Ok(Ty::Record(number)),
         Err(RecordFault::TooBig(_)) => Err(Fault::TooBig(at)),
@@ -111,6 +111,7 @@ fn define(file: &mut FileScope, it: Record) -> Result<Ty, Fault>
 
 /// Adds a record whose tag, which stands at `named`, has the next number.
 fn complete(file: &mut FileScope, named: u32, it: Record) -> Result<Ty, Fault>
+    requires { AreObjects file.old.records it.fields }
     ensures { Finds type_of result (next_or_before (file_of file.old) named (record_of it)) file.new }
 {
     let number = number_of(file, it.tag.as_slice());
@@ -122,7 +123,7 @@ fn complete(file: &mut FileScope, named: u32, it: Record) -> Result<Ty, Fault>
     Err(Fault::Redeclared(tag, named, first))
 }
 
-/// Adds the record of a structure whose definition ends. Its members' names differ.
+/// Adds the record of a structure whose definition ends, with fields of complete types. Its members' names differ.
 #[tactic(auto, unfolding(c_erasure::specs::Checking::Declaring::completed_in))]
 pub fn completed(
     alloc: Global,
@@ -133,6 +134,7 @@ pub fn completed(
     heading: Heading,
     fields: List<Field>,
 ) -> Result<Ty, Fault>
+    requires { AreObjects file.old.records fields }
     ensures { Finds type_of result (completed_in (file_of file.old) (place_of_tag at x.now)
         (member_names (member_declarations_of (map member_declaration_of all.now)))
         (record { tag = heading.tag; place = heading.place; fields = map field_of fields })) file.new }

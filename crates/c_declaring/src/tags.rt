@@ -17,7 +17,7 @@ use std::alloc::Global;
 
 /// The number of the structure with a tag.
 #[tactic(auto, using(crate::proofs::Tables::same_number))]
-pub fn number_of(file: &FileScope, tag: &[u8]) -> Option<u32>
+pub fn number_of(file: &FileScope, tag: &[u8]) -> Option<usize>
     ensures { result ≡ number_among (file_of file.now).numbered tag.now }
 {
     file.tags.number_of(tag)

@@ -38,10 +38,10 @@ fn linkage_agrees(words: Storage, linked: bool) -> bool
 }
 
 /// Whether other files can name the function with that number.
-fn linked_before(file: &FileScope, n: u32) -> bool
+fn linked_before(file: &FileScope, n: usize) -> bool
     ensures { result ≡ function_linked_before (slice_get (file_of file.now).functions n) }
 {
-    match file.functions.get(n as usize) {
+    match file.functions.get(n) {
         Some(g) => g.is_linked,
         None => false,
     }
@@ -55,7 +55,7 @@ fn known_function(
     x: &Spelling,
     t: &Ty,
     old: &Bound,
-) -> Result<u32, Fault>
+) -> Result<usize, Fault>
     ensures { Gives (λ n. (n, file_of file.now)) result
         (known_function_in (file_of file.now) (storage_view words) x.now (type_of t.now) (bound_of old.now) (entity_of old.now.entity)) }
 {
@@ -76,12 +76,12 @@ fn add_function(
     place: u32,
     t: &Ty,
     nodes: u64,
-) -> Result<u32, NoMemory>
+) -> Result<usize, NoMemory>
     ensures number { IfOk result (λ n. n ≡ length file.old.functions) }
     ensures added { OnOk result (file_of file.new
         ≡ with_new_function (file_of file.old) (new_function (file_of file.old) (storage_view words) x.now place (type_of t.now) nodes)) }
 {
-    let n = u32::try_from(file.functions.len()).map_err(|_| NoMemory::unearned())?;
+    let n = file.functions.len();
     let g = Function {
         name: name(alloc, x.text.as_slice())?,
         place: Place {
@@ -89,7 +89,7 @@ fn add_function(
             at: place,
         },
         first: place,
-        ty: copy(t)?,
+        ty: copy(alloc, t)?,
         is_linked: links(words),
         parameters: List::new(alloc),
         locals: List::new(alloc),
@@ -110,7 +110,7 @@ fn function_of(
     place: u32,
     t: &Ty,
     nodes: u64,
-) -> Result<u32, Fault>
+) -> Result<usize, Fault>
     ensures { let f = file_of file.old in
         Finds (λ n. n) result (function_of_in f (storage_view words) x.now place (type_of t.now) nodes (declared_among f.names x.now.text)) file.new }
 {
@@ -190,7 +190,7 @@ fn declare_own(
 {
     main_function(x.text.as_slice(), x.from, t)?;
     let n = function_of(alloc, file, words, x, place, t, nodes)?;
-    let entity = Entity::Function(n, copy(t)?);
+    let entity = Entity::Function(n, copy(alloc, t)?);
     bind(alloc, file, x, from, How::Declares, entity)?;
     Ok(())
 }
@@ -225,7 +225,7 @@ pub fn bind_function(
     left: u32,
     nodes: u64,
     t: &Ty,
-) -> Result<u32, Fault>
+) -> Result<usize, Fault>
     ensures { Finds (λ n. n) result (function_bound (file_of file.old) (storage_view words) x.now place left nodes (type_of t.now)) file.new }
 {
     own_name(x.from, library_named(x.text.as_slice()))?;
@@ -233,7 +233,7 @@ pub fn bind_function(
     let defined = place_of_definition(file, x.text.as_slice());
     let n = function_of(alloc, file, words, x, place, t, nodes)?;
     once(alloc, x, defined)?;
-    let entity = Entity::Function(n, copy(t)?);
+    let entity = Entity::Function(n, copy(alloc, t)?);
     bind(alloc, file, x, left, How::Defines, entity)?;
     Ok(n)
 }
@@ -261,7 +261,7 @@ fn define(
 pub fn define_function(
     alloc: Global,
     functions: &mut List<Function>,
-    n: u32,
+    n: usize,
     place: Place,
     nodes: u64,
     parameters: List<Local>,
@@ -271,8 +271,8 @@ pub fn define_function(
     ensures { map function_view functions.new ≡ functions_with (map function_view functions.old) n place nodes (map local_of parameters) (map local_of locals) (statement_of body) }
 {
     let mut all = replace(functions, List::new(alloc)).into_vec();
-    if (n as usize) < all.len() {
-        define(&mut all[n as usize], place, nodes, parameters, locals, body);
+    if n < all.len() {
+        define(&mut all[n], place, nodes, parameters, locals, body);
     }
     *functions = List::of(all);
 }

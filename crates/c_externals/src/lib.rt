@@ -4,7 +4,7 @@
 //! It stands on `c_declaring`, and mirrors the functions of `c_erasure` on files that walk over no tree. It promises that each answers what the
 //! definition of its name says, with the file after it, or that no memory was left.
 //!
-//! Want of memory is also answered for a 2^32nd object, function or parameter. Not proved: how much time a declaration takes; earlier declarations of its name
+//! Not proved: how much time a declaration takes; earlier declarations of its name
 //! are found by `BoundNames` of `c_scopes`, with no walk over the names of the file.
 #![tactic(auto)]
 

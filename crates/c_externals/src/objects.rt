@@ -46,10 +46,10 @@ fn linkage_agrees(words: Storage, linked: bool) -> bool
 }
 
 /// Whether other files can name the object with that number.
-fn linked_before(file: &FileScope, n: u32) -> bool
+fn linked_before(file: &FileScope, n: usize) -> bool
     ensures { result ≡ linked_before_in (slice_get (file_of file.now).objects n) }
 {
-    match file.objects.get(n as usize) {
+    match file.objects.get(n) {
         Some(o) => o.is_linked,
         None => false,
     }
@@ -63,7 +63,7 @@ fn known_object(
     x: &Spelling,
     t: &Ty,
     old: &Bound,
-) -> Result<u32, Fault>
+) -> Result<usize, Fault>
     ensures { Gives (λ n. (n, file_of file.now)) result
         (known_object_in (file_of file.now) (storage_view words) x.now (type_of t.now) (bound_of old.now) (entity_of old.now.entity)) }
 {
@@ -83,11 +83,11 @@ fn add_object(
     x: &Spelling,
     place: u32,
     t: &Ty,
-) -> Result<u32, NoMemory>
+) -> Result<usize, NoMemory>
     ensures number { IfOk result (λ n. n ≡ length file.old.objects) }
     ensures added { OnOk result (file_of file.new ≡ with_new_object (file_of file.old) (new_object (file_of file.old) (storage_view words) x.now place (type_of t.now))) }
 {
-    let n = u32::try_from(file.objects.len()).map_err(|_| NoMemory::unearned())?;
+    let n = file.objects.len();
     let o = Object {
         name: name(alloc, x.text.as_slice())?,
         place: Place {
@@ -95,7 +95,7 @@ fn add_object(
             at: place,
         },
         first: place,
-        ty: copy(t)?,
+        ty: copy(alloc, t)?,
         is_linked: links(words),
         literal: None,
         initial: None,
@@ -113,7 +113,7 @@ fn object_of(
     x: &Spelling,
     place: u32,
     t: &Ty,
-) -> Result<u32, Fault>
+) -> Result<usize, Fault>
     ensures { let f = file_of file.old in
         Finds (λ n. n) result (object_of_in f (storage_view words) x.now place (type_of t.now) (declared_among f.names x.now.text)) file.new }
 {
@@ -139,15 +139,15 @@ fn define(o: &mut Object, place: Place, initial: Initializer)
 pub fn define_object(
     alloc: Global,
     objects: &mut List<Object>,
-    n: u32,
+    n: usize,
     place: Place,
     initial: Initializer,
 )
     ensures { map object_of objects.new ≡ objects_with (map object_of objects.old) n place (initializer_of initial) }
 {
     let mut all = replace(objects, List::new(alloc)).into_vec();
-    if (n as usize) < all.len() {
-        define(&mut all[n as usize], place, initial);
+    if n < all.len() {
+        define(&mut all[n], place, initial);
     }
     *objects = List::of(all);
 }
@@ -175,7 +175,7 @@ pub fn bind_object(
     place: u32,
     from: u32,
     t: &Ty,
-) -> Result<u32, Fault>
+) -> Result<usize, Fault>
     ensures { Finds (λ n. n) result (object_bound (file_of file.old) (storage_view words) x.now place from (type_of t.now) (option_map value_of value.now)) file.new }
 {
     own_name(x.from, library_named(x.text.as_slice()))?;
@@ -185,7 +185,7 @@ pub fn bind_object(
     };
     let n = object_of(alloc, file, words, x, place, t)?;
     once(alloc, x, defined)?;
-    let entity = Entity::Object(n, copy(t)?);
+    let entity = Entity::Object(n, copy(alloc, t)?);
     bind(alloc, file, x, from, object_how(words, value), entity)?;
     Ok(n)
 }

@@ -90,7 +90,7 @@ fn nothing(alloc: Global) -> Received
 fn add_parameter(
     alloc: Global,
     received: &mut Received,
-    number: u32,
+    number: usize,
     p: &Parameter,
     t: &Ty,
 ) -> Result<Option<()>, NoMemory>
@@ -106,7 +106,7 @@ fn add_parameter(
     };
     let local = Local {
         name: name(alloc, x.text.as_slice())?,
-        ty: copy(t)?,
+        ty: copy(alloc, t)?,
     };
     add(&mut received.locals, local)?;
     let b = Bound {
@@ -114,7 +114,7 @@ fn add_parameter(
         place: x.from,
         from: x.to,
         how: How::Defines,
-        entity: Entity::Local(number, copy(t)?),
+        entity: Entity::Local(number, copy(alloc, t)?),
     };
     received.names.add(alloc, b)?;
     Ok(Some(()))
@@ -128,12 +128,10 @@ fn named(alloc: Global, all: &[Parameter], types: &[Ty]) -> Result<Option<Receiv
         return Ok(None);
     }
     let mut received = nothing(alloc);
-    let mut number: u32 = 0;
     for (index, p) in all.iter().enumerate() {
-        if add_parameter(alloc, &mut received, number, p, &types[index])?.is_none() {
+        if add_parameter(alloc, &mut received, index, p, &types[index])?.is_none() {
             return Ok(None);
         }
-        number = number.checked_add(1).ok_or(NoMemory::unearned())?;
     }
     Ok(Some(received))
 }

@@ -19,7 +19,7 @@ fn mark(marks: &mut Vec<bool>, b: &Bound)
         return;
     }
     if let Entity::Object(n, _) = &b.entity {
-        let n = *n as usize;
+        let n = *n;
         if n < marks.len() {
             marks[n] = true;
         }

@@ -14,7 +14,7 @@ pub enum Fact {
     Converted(TypeId, TypeId, Place),
     /// The address of a field of that record or of a part of it, also of an array that becomes a pointer, with the place of the path to the
     /// field.
-    Taken(u32, Place),
+    Taken(usize, Place),
     /// An argument that is converted as it is passed to a function of the library, with its type before that.
     Passed(LibraryFunction, TypeId, Place),
     /// The name of a function other than as what is called, with the type of the pointer to it.
@@ -22,7 +22,7 @@ pub enum Fact {
     /// An assignment of a whole record of that type.
     Copied(TypeId, Place),
     /// An access to a field of a record, by the record's number and the field's in it, and whether its value is loaded.
-    Site(u32, u32, bool),
+    Site(usize, usize, bool),
     /// The body of a function begins.
     FunctionBegins,
     /// The condition, the step and the body of a loop begin.

@@ -1,6 +1,6 @@
 //! The facts of the functions of a program.
 
-ghost use Rattle.std.specs.Prelude.{◌≡◌, ◌<◌, ◌^◌, IfOk, length};
+ghost use Rattle.std.specs.Prelude.{◌≡◌, IfOk};
 ghost use Rattle.c_typed.specs.Programs.{data_of, program_data};
 ghost use Rattle.c_facts.specs.Programs.{facts_at, facts_by_function, facts_in, facts_of};
 ghost use Rattle.c_facts.specs.Puts.{Puts};
@@ -21,10 +21,10 @@ fn body(found: &mut Found, f: &Function)
     }
 }
 
-fn function(found: &mut Found, p: &Typed, number: u32)
+fn function(found: &mut Found, p: &Typed, number: usize)
     ensures { Puts found.old found.new (facts_at (program_data p.now) number) }
 {
-    match p.functions.get(number as usize) {
+    match p.functions.get(number) {
         None => {}
         Some(f) => body(found, f),
     }
@@ -41,7 +41,6 @@ fn functions(found: &mut Found, p: &Typed, order: &[Defined])
 
 /// What the functions of a program say of types and fields, function by function in the order of profiles.
 pub fn facts(alloc: Global, p: &Typed) -> Result<List<Fact>, NoMemory>
-    requires { length p.now.functions < 2 ^ 32 }
     ensures { IfOk result (λ all. all ≡ facts_of (program_data p.now)) }
 {
     let order = profile_order(alloc, p)?;

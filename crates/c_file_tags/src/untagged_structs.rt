@@ -1,6 +1,6 @@
 //! The tags of structures that have none.
 
-ghost use Rattle.std.specs.Prelude.{◌≡◌, ◌≤◌, ◌+◌, ◌++◌, ℕ, List, nat_eq, ◌∷◌, All, IfOk, OnOk, length, if◌then◌else◌};
+ghost use Rattle.std.specs.Prelude.{◌≡◌, ◌<◌, ◌≤◌, ◌+◌, ◌-◌, ◌^◌, ◌++◌, ℕ, List, nat_eq, ◌∷◌, All, IfOk, OnOk, length, if◌then◌else◌};
 ghost use Rattle.c_tokens.specs.Lexes.{Lexes};
 ghost use Rattle.c_tokens.specs.TokenPlaces.{IsPlaceIn};
 ghost use Rattle.c_erasure.specs.Files.{AreAscending};
@@ -53,7 +53,7 @@ fn presumed_name<'a>(file: &'a File, presumed: Presumed) -> &'a [u8]
     name
 }
 
-fn tag_bytes(alloc: Global, name: &[u8], line: u32, number: u32) -> Result<Vec<u8>, NoMemory>
+fn tag_bytes(alloc: Global, name: &[u8], line: u32, number: usize) -> Result<Vec<u8>, NoMemory>
     ensures { IfOk result (λ tag. tag.items ≡ tag_text (name.now, line) number) }
 {
     let mut buffer = Buffer::new();
@@ -68,20 +68,19 @@ fn tag_bytes(alloc: Global, name: &[u8], line: u32, number: u32) -> Result<Vec<u
 
 /// How many places are on each line: of that line there is one more.
 fn count_one(
-    counts: &mut IndexMap<(Vec<u8>, u32), u32>,
+    counts: &mut IndexMap<(Vec<u8>, u32), usize>,
     alloc: Global,
     name: &[u8],
     line: u32,
-) -> Result<u32, NoMemory>
+) -> Result<usize, NoMemory>
+    requires { counted_at counts.old.entries (name.now, line) < 2 ^ 64 - 1 }
     ensures number { IfOk result (λ n. n ≡ counted_at counts.old.entries (name.now, line) + 1) }
     ensures counted { OnOk result ((q : Line) →
         counted_at counts.new.entries q ≡ counted_at counts.old.entries q + (if is_line q (name.now, line) then 1 else 0)) }
 {
     let key = (copied(alloc, name)?, line);
     let known = counts.get(&key).copied().unwrap_or(0);
-    let Some(number) = known.checked_add(1) else {
-        return Err(NoMemory::unearned());
-    };
+    let number = known + 1;
     put(counts, key, number)?;
     Ok(number)
 }
@@ -92,7 +91,7 @@ fn add_tag(
     at: u32,
     name: &[u8],
     line: u32,
-    number: u32,
+    number: usize,
 ) -> Result<(), NoMemory>
     ensures { OnOk result (tags.new.entries ≡ insert_entry nat_eq tags.old.entries at (tag_text (name.now, line) number)) }
 {

@@ -3,8 +3,7 @@
 //! It stands on `c_annotated`, whose trees it reads, and on `c_types` for sizes. It promises the values of `initial_value` and the mentions of
 //! `told_by_initial`.
 //!
-//! Not said: that `NoMemory` comes for want of memory alone. It is answered too where a size passes 32 bits or a field is not there, which a checked file
-//! rules out.
+//! Not said: that no offset passes 32 bits. Where one does, as in no object within the limits of types, more memory is asked for than there can be.
 #![tactic(auto)]
 
 mod address;
@@ -15,6 +14,6 @@ mod values;
 
 pub use address::Address;
 pub use mentions::told_by_initial;
-pub use sizes::{field_offset, size};
+pub use sizes::{field_offset, further, size};
 pub use stores::{Store, stores_of};
 pub use values::{Value, initial_value};

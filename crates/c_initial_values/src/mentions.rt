@@ -37,13 +37,18 @@ fn is_null_node(e: &Expression) -> bool
 }
 
 /// Those before and after a conversion of a pointer, with the place of what is converted.
-fn told_by_conversion(found: &mut List<Mention>, t: &Ty, e: &Expression) -> Result<(), NoMemory>
+fn told_by_conversion(
+    alloc: Global,
+    found: &mut List<Mention>,
+    t: &Ty,
+    e: &Expression,
+) -> Result<(), NoMemory>
     ensures { OnOk result (mentions_in found.new ≡ mentions_in found.old ++ of_conversion (type_of t.now) (typed (expression_of e.now))) }
 {
     if is_pointer(t) && is_pointer(&e.ty) && !same(t, &e.ty) && !is_null_node(e) {
-        let from = copy(&e.ty)?;
+        let from = copy(alloc, &e.ty)?;
         add_mention(found, MentionKind::From, from, e.place)?;
-        let to = copy(t)?;
+        let to = copy(alloc, t)?;
         add_mention(found, MentionKind::To, to, e.place)
     } else {
         Ok(())
@@ -60,7 +65,7 @@ fn told_by_expression(
 {
     match &e.node {
         ExpressionNode::FunctionName(_) => {
-            let ty = copy(&e.ty)?;
+            let ty = copy(alloc, &e.ty)?;
             add_mention(found, MentionKind::Used, ty, e.place)
         }
         ExpressionNode::Load(p) | ExpressionNode::AddressOf(p) | ExpressionNode::Decay(p) => {
@@ -68,7 +73,7 @@ fn told_by_expression(
         }
         ExpressionNode::Convert(x, _) => {
             told_by_expression(alloc, found, x.get())?;
-            told_by_conversion(found, &e.ty, x.get())
+            told_by_conversion(alloc, found, &e.ty, x.get())
         }
         ExpressionNode::Unary(_, x) | ExpressionNode::Not(x) => {
             told_by_expression(alloc, found, x.get())

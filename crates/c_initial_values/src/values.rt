@@ -1,6 +1,6 @@
 //! The values of constant expressions in initializers (C99 6.6): numbers, null pointers, and addresses.
 
-ghost use Rattle.std.specs.Prelude.{◌≡◌, [], IfOk};
+ghost use Rattle.std.specs.Prelude.{◌≡◌, []};
 ghost use Rattle.std.specs.Option.{option_map};
 ghost use Rattle.c_typed.specs.InitialValues.{address_in, address_of_path, function_in, initial_value, is_null_in};
 ghost use Rattle.c_typed.specs.Mapped.{mapped_path, of_types};
@@ -8,12 +8,11 @@ ghost use Rattle.c_annotated.specs.Views.{expression_of, path_of};
 ghost use Rattle.c_erasure.specs.Erasure.{typed};
 ghost use Rattle.c_initial_values.specs.Values.{address_of, declared_by, pointer_value, value_of};
 
-use crate::address::{Address, inside, moved, moved_by, number_in, subscripted};
+use crate::address::{Address, field_at, moved, moved_by, number_in, subscripted};
 use crate::sizes::{element_size, field_offset};
 use c_annotated::{Expression, ExpressionNode, Object, Path, PathNode, constant_of, is_null};
 use c_typed::{Constant, is_pointer};
 use c_types::{IntKind, Records, Ty};
-use lay_base::NoMemory;
 
 /// The value of a constant expression in an initializer.
 #[derive(Clone, Copy)]
@@ -22,17 +21,13 @@ pub enum Value {
     Null,
     Address(Address),
     /// The function of that number.
-    Function(u32),
+    Function(usize),
 }
 
 /// The address that an expression is.
 #[cycle(addresses)]
-fn address_in(
-    e: &Expression,
-    records: &Records,
-    objects: &[Object],
-) -> Result<Option<Address>, NoMemory>
-    ensures { IfOk result (λ a. option_map address_of a ≡ address_in (declared_by records.now objects.now) (typed (expression_of e.now))) }
+fn address_in(e: &Expression, records: &Records, objects: &[Object]) -> Option<Address>
+    ensures { option_map address_of result ≡ address_in (declared_by records.now objects.now) (typed (expression_of e.now)) }
 {
     match &e.node {
         ExpressionNode::AddressOf(p) => address_of_path(true, p.get(), records, objects),
@@ -41,22 +36,22 @@ fn address_in(
             if is_pointer(&e.ty) {
                 address_in(x.get(), records, objects)
             } else {
-                Ok(None)
+                None
             }
         }
         ExpressionNode::PointerAdd(op, x, y) => {
-            let size = element_size(records, &e.ty).ok_or(NoMemory::unearned())?;
+            let size = element_size(records, &e.ty);
             if is_pointer(&x.get().ty) {
                 let k = number_in(&y.get().ty, constant_of(y.get()));
-                let a = address_in(x.get(), records, objects)?;
+                let a = address_in(x.get(), records, objects);
                 moved_by(records, objects, *op, a, k, size)
             } else {
                 let k = number_in(&x.get().ty, constant_of(x.get()));
-                let a = address_in(y.get(), records, objects)?;
+                let a = address_in(y.get(), records, objects);
                 moved(records, objects, a, k, size)
             }
         }
-        _ => Ok(None),
+        _ => None,
     }
 }
 
@@ -67,39 +62,38 @@ fn address_of_path(
     p: &Path,
     records: &Records,
     objects: &[Object],
-) -> Result<Option<Address>, NoMemory>
-    ensures { IfOk result (λ a. option_map address_of a
-        ≡ address_of_path (declared_by records.now objects.now) addressed (mapped_path (of_types (λ t. t.ty)) (path_of p.now))) }
+) -> Option<Address>
+    ensures { option_map address_of result
+        ≡ address_of_path (declared_by records.now objects.now) addressed (mapped_path (of_types (λ t. t.ty)) (path_of p.now)) }
 {
     match &p.node {
-        PathNode::Named(_) => Ok(None),
-        PathNode::Object(n) => Ok(Some(Address {
+        PathNode::Named(_) => None,
+        PathNode::Object(n) => Some(Address {
             object: *n,
             offset: 0,
-        })),
+        }),
         PathNode::Deref(e) => address_in(e.get(), records, objects),
         PathNode::Index(e, i) => {
-            let size = element_size(records, &e.get().ty).ok_or(NoMemory::unearned())?;
+            let size = element_size(records, &e.get().ty);
             let k = number_in(&i.get().ty, constant_of(i.get()));
-            let a = address_in(e.get(), records, objects)?;
+            let a = address_in(e.get(), records, objects);
             moved(records, objects, a, k, size)
         }
         PathNode::Member(p, r, field) => {
-            let offset = field_offset(records, *r, *field).ok_or(NoMemory::unearned())?;
-            let a = address_of_path(false, p.get(), records, objects)?;
-            let a = moved(records, objects, a, Some(i64::from(offset)), 1)?;
-            inside(records, objects, a)
+            let offset = field_offset(records, *r, *field);
+            let a = address_of_path(false, p.get(), records, objects);
+            field_at(records, objects, a, offset)
         }
         PathNode::Element(p, i) => {
             let k = number_in(&i.get().ty, constant_of(i.get()));
-            let a = address_of_path(false, p.get(), records, objects)?;
+            let a = address_of_path(false, p.get(), records, objects);
             subscripted(records, objects, addressed, &p.get().ty, a, k)
         }
     }
 }
 
 /// The function whose address an expression is, converted or not.
-fn function_in(e: &Expression) -> Option<u32>
+fn function_in(e: &Expression) -> Option<usize>
     ensures { result ≡ function_in (declared_by [] []) (typed (expression_of e.now)) }
 {
     match &e.node {
@@ -130,37 +124,29 @@ fn is_null_in(e: &Expression) -> bool
 
 /// The value of an expression whose type is no integer type.
 #[tactic(auto, using(crate::proofs::Alike::null_anywhere, crate::proofs::Alike::function_anywhere))]
-fn pointer_value(
-    records: &Records,
-    objects: &[Object],
-    e: &Expression,
-) -> Result<Option<Value>, NoMemory>
-    ensures { IfOk result (λ v. option_map value_of v ≡ pointer_value (declared_by records.now objects.now) (typed (expression_of e.now))) }
+fn pointer_value(records: &Records, objects: &[Object], e: &Expression) -> Option<Value>
+    ensures { option_map value_of result ≡ pointer_value (declared_by records.now objects.now) (typed (expression_of e.now)) }
 {
     if is_null_in(e) {
-        return Ok(Some(Value::Null));
+        return Some(Value::Null);
     }
-    match address_in(e, records, objects)? {
-        Some(a) => Ok(Some(Value::Address(a))),
+    match address_in(e, records, objects) {
+        Some(a) => Some(Value::Address(a)),
         None => match function_in(e) {
-            Some(f) => Ok(Some(Value::Function(f))),
-            None => Ok(None),
+            Some(f) => Some(Value::Function(f)),
+            None => None,
         },
     }
 }
 
 /// The value of a constant expression in an initializer of a file with those records and objects; none of any other expression.
-pub fn initial_value(
-    records: &Records,
-    objects: &[Object],
-    e: &Expression,
-) -> Result<Option<Value>, NoMemory>
-    ensures { IfOk result (λ v. option_map value_of v ≡ initial_value (declared_by records.now objects.now) (typed (expression_of e.now))) }
+pub fn initial_value(records: &Records, objects: &[Object], e: &Expression) -> Option<Value>
+    ensures { option_map value_of result ≡ initial_value (declared_by records.now objects.now) (typed (expression_of e.now)) }
 {
     match &e.ty {
         Ty::Int(kind) => match constant_of(e) {
-            Constant::Valued(v) => Ok(Some(Value::Number(*kind, v))),
-            _ => Ok(None),
+            Constant::Valued(v) => Some(Value::Number(*kind, v)),
+            _ => None,
         },
         _ => pointer_value(records, objects, e),
     }

@@ -1,4 +1,5 @@
 pub mod NumberLists
+pub mod NextRecords
 pub mod Pairs
 pub mod Placed
 pub mod RecordLists

@@ -1,3 +1,4 @@
 pub mod Joining
 pub mod Placing
+pub mod Records
 pub mod Views

@@ -1,6 +1,6 @@
 //! The objects and functions of a program, and the numbers that those of a unit have among them.
 
-ghost use Rattle.std.specs.Prelude.{◌≡◌, ◌+◌, [], IfOk, OnOk, fold, get_or, map};
+ghost use Rattle.std.specs.Prelude.{◌≡◌, [], IfOk, OnOk, fold, get_or, map};
 ghost use Rattle.c_joining.specs.Joining.{all_functions, all_objects, function_identities, identity, object_identities};
 ghost use Rattle.c_numbers.specs.NewNumbers.Numbers.{number_at};
 ghost use Rattle.c_typed.specs.Programs.{data_of, unit_data};
@@ -12,28 +12,16 @@ use c_typed::{Function, Object, Unit};
 use lay_base::{List, Name, NoMemory, add};
 use std::alloc::Global;
 
-/// The number after one.
-pub fn next(number: u32) -> Result<u32, NoMemory>
-    ensures { IfOk result (λ n. n ≡ number + 1) }
-{
-    match number.checked_add(1) {
-        Some(n) => Ok(n),
-        None => Err(NoMemory::unearned()),
-    }
-}
-
 fn add_objects(
     alloc: Global,
     keys: &mut KeyTable,
-    unit: u32,
+    unit: usize,
     objects: &[Object],
 ) -> Result<(), NoMemory>
     ensures { OnOk result (keys.new ≡ fold with_key keys.old (object_identities unit 0 objects.now)) }
 {
-    let mut n: u32 = 0;
-    for o in objects {
+    for (n, o) in objects.iter().enumerate() {
         keys.add(identity_key(alloc, unit, o.linked, &o.name, n)?)?;
-        n = next(n)?;
     }
     Ok(())
 }
@@ -41,15 +29,13 @@ fn add_objects(
 fn add_functions(
     alloc: Global,
     keys: &mut KeyTable,
-    unit: u32,
+    unit: usize,
     functions: &[Function],
 ) -> Result<(), NoMemory>
     ensures { OnOk result (keys.new ≡ fold with_key keys.old (function_identities unit 0 (map data_of functions.now))) }
 {
-    let mut n: u32 = 0;
-    for f in functions {
+    for (n, f) in functions.iter().enumerate() {
         keys.add(identity_key(alloc, unit, f.linked, &f.name, n)?)?;
-        n = next(n)?;
     }
     Ok(())
 }
@@ -59,10 +45,8 @@ pub fn all_objects(alloc: Global, units: &[Unit]) -> Result<KeyTable, NoMemory>
     ensures { IfOk result (λ keys. keys ≡ all_objects (map unit_data units.now)) }
 {
     let mut keys = KeyTable::new(alloc);
-    let mut k: u32 = 0;
-    for u in units {
+    for (k, u) in units.iter().enumerate() {
         add_objects(alloc, &mut keys, k, u.objects.as_slice())?;
-        k = next(k)?;
     }
     Ok(keys)
 }
@@ -72,10 +56,8 @@ pub fn all_functions(alloc: Global, units: &[Unit]) -> Result<KeyTable, NoMemory
     ensures { IfOk result (λ keys. keys ≡ all_functions (map unit_data units.now)) }
 {
     let mut keys = KeyTable::new(alloc);
-    let mut k: u32 = 0;
-    for u in units {
+    for (k, u) in units.iter().enumerate() {
         add_functions(alloc, &mut keys, k, u.functions.as_slice())?;
-        k = next(k)?;
     }
     Ok(keys)
 }
@@ -83,11 +65,11 @@ pub fn all_functions(alloc: Global, units: &[Unit]) -> Result<KeyTable, NoMemory
 pub fn number_of(
     alloc: Global,
     keys: &KeyTable,
-    unit: u32,
+    unit: usize,
     linked: bool,
     name: &Name,
-    number: u32,
-) -> Result<u32, NoMemory>
+    number: usize,
+) -> Result<usize, NoMemory>
     ensures { IfOk result (λ n. n ≡ position keys.now (identity unit linked name.now number)) }
 {
     let key = identity_key(alloc, unit, linked, name, number)?;
@@ -97,19 +79,17 @@ pub fn number_of(
 fn entries_of_objects(
     alloc: Global,
     keys: &KeyTable,
-    unit: u32,
+    unit: usize,
     objects: &[Object],
-) -> Result<List<u32>, NoMemory>
+) -> Result<List<usize>, NoMemory>
     ensures { IfOk result (λ numbers. numbers ≡ map (position keys.now) (object_identities unit 0 objects.now)) }
 {
     let mut numbers = List::new(alloc);
-    let mut n: u32 = 0;
-    for o in objects {
+    for (n, o) in objects.iter().enumerate() {
         add(
             &mut numbers,
             number_of(alloc, keys, unit, o.linked, &o.name, n)?,
         )?;
-        n = next(n)?;
     }
     Ok(numbers)
 }
@@ -117,19 +97,17 @@ fn entries_of_objects(
 fn entries_of_functions(
     alloc: Global,
     keys: &KeyTable,
-    unit: u32,
+    unit: usize,
     functions: &[Function],
-) -> Result<List<u32>, NoMemory>
+) -> Result<List<usize>, NoMemory>
     ensures { IfOk result (λ numbers. numbers ≡ map (position keys.now) (function_identities unit 0 (map data_of functions.now))) }
 {
     let mut numbers = List::new(alloc);
-    let mut n: u32 = 0;
-    for f in functions {
+    for (n, f) in functions.iter().enumerate() {
         add(
             &mut numbers,
             number_of(alloc, keys, unit, f.linked, &f.name, n)?,
         )?;
-        n = next(n)?;
     }
     Ok(numbers)
 }
@@ -138,7 +116,7 @@ fn entries_of_functions(
 pub fn numbers_of_objects(
     alloc: Global,
     keys: &KeyTable,
-    unit: u32,
+    unit: usize,
     objects: &[Object],
 ) -> Result<Numbers, NoMemory>
     ensures { IfOk result (λ numbers. number_at numbers ≡ (λ n. position keys.now (get_or (object_identities unit 0 objects.now) n []))) }
@@ -154,7 +132,7 @@ pub fn numbers_of_objects(
 pub fn numbers_of_functions(
     alloc: Global,
     keys: &KeyTable,
-    unit: u32,
+    unit: usize,
     functions: &[Function],
 ) -> Result<Numbers, NoMemory>
     ensures { IfOk result (λ numbers. number_at numbers ≡ (λ n. position keys.now (get_or (function_identities unit 0 (map data_of functions.now)) n []))) }

@@ -1,6 +1,6 @@
 //! The objects, functions and mentions of the units, one after another.
 
-ghost use Rattle.std.specs.Prelude.{◌≡◌, ◌+◌, ◌++◌, [], IfOk, OnOk, fold, map};
+ghost use Rattle.std.specs.Prelude.{◌≡◌, ◌+◌, ◌*◌, ◌^◌, ◌≤◌, ◌++◌, IfOk, OnOk, fold, map};
 ghost use Rattle.c_joining.specs.Joining.{function_identities, identity, is_function_defined, is_object_defined, numbered_from, object_identities, paired};
 ghost use Rattle.c_joining.specs.Placing.{place, placed};
 ghost use Rattle.c_joining.specs.Views.{joined_of, nothing, tables_of, with_unit};
@@ -9,7 +9,7 @@ ghost use Rattle.c_numbers.specs.NewNumbers.Parts.{function_in, mention_in, obje
 ghost use Rattle.c_typed.specs.Programs.{data_of, unit_data};
 ghost use Rattle.c_numbers.specs.KeyNumbers.Keys.{position};
 
-use crate::identities::{next, number_of};
+use crate::identities::number_of;
 use crate::placing::{place_function, place_object};
 use crate::tables::{Tables, renumbering};
 use c_numbers::{KeyTable, Renumbering, renumber_function, renumber_mention, renumber_object};
@@ -23,15 +23,15 @@ pub struct Joined {
     pub objects: Vec<Object>,
     pub functions: Vec<Function>,
     pub mentions: List<Mention>,
-    pub nodes: u64,
+    pub nodes: u128,
 }
 
 fn join_object(
     alloc: Global,
     keys: &KeyTable,
     to: &Renumbering,
-    unit: u32,
-    n: u32,
+    unit: usize,
+    n: usize,
     all: &mut Vec<Object>,
     mut o: Object,
 ) -> Result<(), NoMemory>
@@ -46,16 +46,16 @@ fn join_objects(
     alloc: Global,
     keys: &KeyTable,
     to: &Renumbering,
-    unit: u32,
+    unit: usize,
     all: &mut Vec<Object>,
     objects: List<Object>,
 ) -> Result<(), NoMemory>
     ensures { OnOk result (all.new.items ≡ placed is_object_defined keys.now all.old.items (paired (object_identities unit 0 objects) (map (object_in (renaming_of to.now)) objects))) }
 {
-    let mut n: u32 = 0;
+    let mut n: usize = 0;
     for o in objects.into_vec() {
         join_object(alloc, keys, to, unit, n, all, o)?;
-        n = next(n)?;
+        n += 1;
     }
     Ok(())
 }
@@ -64,8 +64,8 @@ fn join_function(
     alloc: Global,
     keys: &KeyTable,
     to: &Renumbering,
-    unit: u32,
-    n: u32,
+    unit: usize,
+    n: usize,
     all: &mut Vec<Function>,
     mut f: Function,
 ) -> Result<(), NoMemory>
@@ -80,16 +80,16 @@ fn join_functions(
     alloc: Global,
     keys: &KeyTable,
     to: &Renumbering,
-    unit: u32,
+    unit: usize,
     all: &mut Vec<Function>,
     functions: List<Function>,
 ) -> Result<(), NoMemory>
     ensures { OnOk result (map data_of all.new.items ≡ placed is_function_defined keys.now (map data_of all.old.items) (paired (function_identities unit 0 (map data_of functions)) (map (function_in (renaming_of to.now)) (map data_of functions)))) }
 {
-    let mut n: u32 = 0;
+    let mut n: usize = 0;
     for f in functions.into_vec() {
         join_function(alloc, keys, to, unit, n, all, f)?;
-        n = next(n)?;
+        n += 1;
     }
     Ok(())
 }
@@ -106,16 +106,6 @@ fn join_mentions(
         add(all, it)?;
     }
     Ok(())
-}
-
-/// The sum of two numbers of nodes.
-fn sum(n: u64, m: u64) -> Result<u64, NoMemory>
-    ensures { IfOk result (λ s. s ≡ n + m) }
-{
-    match n.checked_add(m) {
-        Some(s) => Ok(s),
-        None => Err(NoMemory::unearned()),
-    }
 }
 
 /// What a unit gives to the program by its numbers.
@@ -149,14 +139,16 @@ fn parts_of(u: Unit) -> Given
 fn join_unit(
     alloc: Global,
     tables: &Tables,
-    unit: u32,
+    unit: usize,
     joined: &mut Joined,
     u: Unit,
 ) -> Result<(), NoMemory>
-    ensures { OnOk result (joined_of joined.new ≡ with_unit (tables_of tables.now) (joined_of joined.old) (unit, unit_data u)) }
+    requires { joined.old.nodes ≤ unit * 2 ^ 64 }
+    ensures joined { OnOk result (joined_of joined.new ≡ with_unit (tables_of tables.now) (joined_of joined.old) (unit, unit_data u)) }
+    ensures few { OnOk result (joined.new.nodes ≤ (unit + 1) * 2 ^ 64) }
 {
     let to = renumbering(alloc, tables, unit, &u)?;
-    joined.nodes = sum(joined.nodes, u.nodes)?;
+    joined.nodes += u128::from(u.nodes);
     let Given {
         objects,
         functions,
@@ -191,10 +183,10 @@ pub fn joined_units(alloc: Global, tables: &Tables, units: List<Unit>) -> Result
         mentions: List::new(alloc),
         nodes: 0,
     };
-    let mut k: u32 = 0;
+    let mut k: usize = 0;
     for u in units.into_vec() {
         join_unit(alloc, tables, k, &mut joined, u)?;
-        k = next(k)?;
+        k += 1;
     }
     Ok(joined)
 }

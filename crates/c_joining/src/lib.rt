@@ -14,7 +14,6 @@ mod tables;
 mod tags;
 mod types;
 
-pub use identities::next;
 pub use keys::name_key;
 pub use placing::put;
 pub use program::join;

@@ -9,39 +9,38 @@ use c_typed::{Function, Object};
 use lay_base::{NoMemory, push};
 
 /// Puts a thing to those before it, or in the place of the one that has its number.
-pub fn put<T: Drop>(all: &mut Vec<T>, number: u32, replaces: bool, it: T) -> Result<(), NoMemory>
+pub fn put<T: Drop>(all: &mut Vec<T>, number: usize, replaces: bool, it: T) -> Result<(), NoMemory>
     ensures { OnOk result (all.new.items ≡ put replaces all.old.items number it) }
 {
-    let n = number as usize;
-    if n >= all.len() {
+    if number >= all.len() {
         return push(all, it);
     }
     if replaces {
-        all[n] = it;
+        all[number] = it;
     }
     Ok(())
 }
 
-fn replaces_object(all: &[Object], number: u32, o: &Object) -> bool
+fn replaces_object(all: &[Object], number: usize, o: &Object) -> bool
     ensures { result ≡ replaces is_object_defined all.now number o.now }
 {
-    match all.get(number as usize) {
+    match all.get(number) {
         Some(first) => first.initial.is_none() && o.initial.is_some(),
         None => false,
     }
 }
 
-fn replaces_function(all: &[Function], number: u32, f: &Function) -> bool
+fn replaces_function(all: &[Function], number: usize, f: &Function) -> bool
     ensures { result ≡ replaces (λ g. is_function_defined (data_of g)) all.now number f.now }
 {
-    match all.get(number as usize) {
+    match all.get(number) {
         Some(first) => first.body.is_none() && f.body.is_some(),
         None => false,
     }
 }
 
 /// Puts an object to those before it. Of two of one number the first that is defined is kept, or else the first.
-pub fn place_object(all: &mut Vec<Object>, number: u32, o: Object) -> Result<(), NoMemory>
+pub fn place_object(all: &mut Vec<Object>, number: usize, o: Object) -> Result<(), NoMemory>
     ensures { OnOk result (all.new.items ≡ place is_object_defined all.old.items number o) }
 {
     let replaces = replaces_object(all.as_slice(), number, &o);
@@ -49,7 +48,7 @@ pub fn place_object(all: &mut Vec<Object>, number: u32, o: Object) -> Result<(),
 }
 
 /// Puts a function to those before it. Of two of one number the first that is defined is kept, or else the first.
-pub fn place_function(all: &mut Vec<Function>, number: u32, f: Function) -> Result<(), NoMemory>
+pub fn place_function(all: &mut Vec<Function>, number: usize, f: Function) -> Result<(), NoMemory>
     ensures { OnOk result (map data_of all.new.items ≡ place is_function_defined (map data_of all.old.items) number (data_of f)) }
 {
     let replaces = replaces_function(all.as_slice(), number, &f);

@@ -43,7 +43,7 @@ pub fn program_tables(alloc: Global, units: &[Unit]) -> Result<Tables, NoMemory>
 pub fn renumbering(
     alloc: Global,
     tables: &Tables,
-    unit: u32,
+    unit: usize,
     u: &Unit,
 ) -> Result<Renumbering, NoMemory>
     ensures { IfOk result (λ to. renaming_of to ≡ renaming (tables_of tables.now) unit (unit_data u.now)) }

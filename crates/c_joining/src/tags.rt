@@ -15,7 +15,7 @@ use lay_base::{List, Name, NoMemory, add};
 use std::alloc::Global;
 
 /// The number of a name.
-pub fn number_of(alloc: Global, keys: &KeyTable, name: &Name) -> Result<u32, NoMemory>
+pub fn number_of(alloc: Global, keys: &KeyTable, name: &Name) -> Result<usize, NoMemory>
     ensures { IfOk result (λ n. n ≡ position keys.now name.now) }
 {
     let key = name_key(alloc, name)?;
@@ -72,7 +72,7 @@ pub fn all_tags(alloc: Global, units: &[Unit]) -> Result<KeyTable, NoMemory>
 fn add_numbers_of_tags(
     alloc: Global,
     tags: &KeyTable,
-    numbers: &mut List<u32>,
+    numbers: &mut List<usize>,
     records: &[Record],
 ) -> Result<(), NoMemory>
     ensures { OnOk result (numbers.new ≡ numbers.old ++ map (position tags.now) (map (λ r. r.tag) (records_of records.now))) }
@@ -86,7 +86,7 @@ fn add_numbers_of_tags(
 fn add_numbers_of_names(
     alloc: Global,
     tags: &KeyTable,
-    numbers: &mut List<u32>,
+    numbers: &mut List<usize>,
     names: &[Name],
 ) -> Result<(), NoMemory>
     ensures { OnOk result (numbers.new ≡ numbers.old ++ map (position tags.now) names.now) }

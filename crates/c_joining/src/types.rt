@@ -55,7 +55,7 @@ pub fn all_types(alloc: Global, tags: &KeyTable, units: &[Unit]) -> Result<TypeT
     Ok(types)
 }
 
-fn number_of(alloc: Global, types: &TypeTable, records: &Numbers, t: &Ty) -> Result<u32, NoMemory>
+fn number_of(alloc: Global, types: &TypeTable, records: &Numbers, t: &Ty) -> Result<usize, NoMemory>
     ensures { IfOk result (λ n. n ≡ number_in (map type_of types.now) (renumbered (number_at records.now) (type_of t.now))) }
 {
     let t = renumbered_type(alloc, records, t)?;
@@ -66,7 +66,7 @@ fn add_numbers(
     alloc: Global,
     types: &TypeTable,
     records: &Numbers,
-    numbers: &mut List<u32>,
+    numbers: &mut List<usize>,
     all: &[Ty],
 ) -> Result<(), NoMemory>
     ensures { OnOk result (numbers.new ≡ numbers.old ++ map (λ t. number_in (map type_of types.now) (renumbered (number_at records.now) t)) (map type_of all.now)) }

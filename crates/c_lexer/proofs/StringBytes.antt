@@ -1,13 +1,12 @@
 -- The bytes of string literals, read from the left.
-use Rattle.std.proofs.Common.{◌≡◌, ◌≤◌, ◌<◌, ℕ, false, List, [], ◌∷◌, ◌++◌, length, drop, map, flat_map, Option, Some, None, refl}
+use Rattle.std.proofs.Common.{◌≡◌, ◌≤◌, ◌<◌, ℕ, true, false, List, [], ◌∷◌, ◌++◌, length, take, drop, map, flat_map, Option, Some, None, refl}
 use Rattle.std.proofs.Common.{ap, sym, ◌∙◌, arith, append-nil, append_assoc}
-use Rattle.std.specs.Prelude.{option_map, unwrap_or}
+use Rattle.std.specs.Prelude.{option_map}
 use Rattle.std.specs.List.{All, list_any}
-use Rattle.std.proofs.lemmas.Bool.{or_parts, leb-false, lt-leb}
+use Rattle.std.proofs.lemmas.Bool.{or_parts, lt-leb, le-leb}
 use Rattle.std.proofs.lemmas.List.Elements.{All-head, All-tail}
-use Rattle.std.proofs.lemmas.Option.{same_Some}
 use Rattle.c_tokens.specs.Quoted.{Item, item_value, HasItems}
-use Rattle.c_tokens.specs.QuotedScan.{item_at, values_in, is_too_great, body_of, string_bytes}
+use Rattle.c_tokens.specs.QuotedScan.{item_at, values_in, is_too_great, body_of, bytes_with, string_bytes}
 use Rattle.c_tokens.specs.Strings.{IsStringLiteral, AreBytesOf, AreBytesOfAll}
 use Rattle.c_lexer.specs.StringBytes.{StringsHaveBytes}
 use Rattle.c_lexer.proofs.Items.{read_value, read_small}
@@ -40,7 +39,7 @@ literal_read text items has a =
 
 bytes_read : (text : List ℕ) (items : List Item) (has : HasItems 34 items text) → All Small items → string_bytes text ≡ map item_value items
 unfolding string_bytes
-bytes_read text items has a = ap (λ o. unwrap_or o []) (literal_read text items has a)
+bytes_read text items has a = ap bytes_with (literal_read text items has a) ∙ rw (no_great items a) refl
 
 pub of_one : (text : List ℕ) → IsStringLiteral text → AreBytesOf text (string_bytes text)
 of_one text t = (t.0, t.1, t.2, bytes_read text t.0 t.1 t.2)
@@ -61,62 +60,93 @@ no_others text bytes others a b = b.3 ∙ sym (bytes_read text b.0 b.1 b.2) ∙ 
 pub strings_have_bytes : StringsHaveBytes
 strings_have_bytes = record { of_one = of_one; of_all = of_all; no_others = no_others }
 
--- ---- steps of the loop over the characters of a literal
+-- ---- steps of the loop over the characters of a text
 
--- the bytes so far, and those of the rest, none of them too great, are the whole
-pub record ReadsOn (done rest whole : List ℕ) : Type 0 where
-  pub values : List ℕ
-  pub read : values_in (length rest) rest ≡ Some values
-  pub small : list_any is_too_great values ≡ false
-  pub joined : done ++ values ≡ whole
+abbrev with_read : (read : List ℕ) → Option (List ℕ) → Option (List ℕ)
+with_read read more = option_map (λ values. read ++ values) more
 
-pub reads_begin : (done text : List ℕ) → IsStringLiteral text → ReadsOn done (body_of text) (done ++ string_bytes text)
-reads_begin done text t = record {
-  values = map item_value t.0;
-  read = literal_read text t.0 t.1 t.2;
-  small = no_great t.0 t.2;
-  joined = ap (λ l. done ++ l) (sym (bytes_read text t.0 t.1 t.2));
+-- the values that were read, none of them too great, stand behind what was there first, and before those of the rest
+pub record ReadsOn (first done rest body : List ℕ) : Type 0 where
+  pub read : List ℕ
+  pub done_is : done ≡ first ++ read
+  pub small : list_any is_too_great read ≡ false
+  pub whole : values_in (length body) body ≡ with_read read (values_in (length rest) rest)
+
+nothing_read : (o : Option (List ℕ)) → o ≡ with_read [] o
+nothing_read None = refl
+nothing_read (Some values) = refl
+
+pub reads_begin : (first body : List ℕ) → ReadsOn first first body body
+reads_begin first body = record {
+  read = [];
+  done_is = sym (append-nil first);
+  small = refl;
+  whole = nothing_read (values_in (length body) body);
 }
 
--- the first value of some
-record FirstOf (value : ℕ) (more : Option (List ℕ)) (values : List ℕ) : Type 0 where
-  rest : List ℕ
-  more_is : more ≡ Some rest
-  values_are : values ≡ value ∷ rest
+one_more : (read : List ℕ) (value : ℕ) (o : Option (List ℕ)) → with_read read (option_map (λ values. value ∷ values) o) ≡ with_read (read ++ value ∷ []) o
+one_more read value None = refl
+one_more read value (Some values) = ap Some (sym (append_assoc read (value ∷ []) values))
 
-first_of : (value : ℕ) (more : Option (List ℕ)) (values : List ℕ) → option_map (λ values. value ∷ values) more ≡ Some values → FirstOf value more values
-first_of value None values h = cc
-first_of value (Some rest) values h = record { rest = rest; more_is = refl; values_are = sym (same_Some (value ∷ rest) values h) }
+any_in_both : (some more : List ℕ) → list_any is_too_great some ≡ false → list_any is_too_great (some ++ more) ≡ list_any is_too_great more
+any_in_both [] more h = refl
+any_in_both (value ∷ some) more h =
+    let h = or_parts (is_too_great value) (list_any is_too_great some) h in rw h.0 (any_in_both some more h.1)
 
-reads_first : (done rest whole : List ℕ) (value size : ℕ) (r : ReadsOn done rest whole) → item_at rest ≡ Some (value, size)
-    → FirstOf value (values_in (length (drop size rest)) (drop size rest)) r.values
-reads_first done rest whole value size r h = first_of value _ r.values (sym (values_step rest (value, size) h) ∙ r.read)
+is_small : (value : ℕ) → value ≤ 255 → list_any is_too_great (value ∷ []) ≡ false
+is_small value h = rw (lt-leb 256 value (omega (arith, h))) refl
 
-small_parts : (value : ℕ) (rest values : List ℕ) → values ≡ value ∷ rest → list_any is_too_great values ≡ false
-    → (is_too_great value ≡ false) × (list_any is_too_great rest ≡ false)
-small_parts value rest values e h = or_parts (is_too_great value) (list_any is_too_great rest) (ap (list_any is_too_great) (sym e) ∙ h)
+pub reads_more : (first done rest body : List ℕ) (value size : ℕ) → item_at rest ≡ Some (value, size) → value ≤ 255 → ReadsOn first done rest body
+    → ReadsOn first (done ++ value ∷ []) (drop size rest) body
+reads_more first done rest body value size item h r = record {
+  read = r.read ++ value ∷ [];
+  done_is = rw r.done_is (append_assoc first r.read (value ∷ []));
+  small = any_in_both r.read (value ∷ []) r.small ∙ is_small value h;
+  whole = r.whole ∙ ap (with_read r.read) (values_step rest (value, size) item) ∙ one_more r.read value (values_in (length (drop size rest)) (drop size rest));
+}
 
-pub reads_small : (done rest whole : List ℕ) (value size : ℕ) → item_at rest ≡ Some (value, size) → ReadsOn done rest whole → value ≤ 255
-reads_small done rest whole value size h r =
-    let f = reads_first done rest whole value size r h in
-    let l = leb-false 256 value (small_parts value f.rest r.values f.values_are r.small).0 in omega (arith, l)
+-- ---- and its ends
 
-pub reads_more : (done rest whole : List ℕ) (value size : ℕ) → item_at rest ≡ Some (value, size) → ReadsOn done rest whole
-    → ReadsOn (done ++ value ∷ []) (drop size rest) whole
-reads_more done rest whole value size h r =
-    let f = reads_first done rest whole value size r h in
-    record {
-      values = f.rest;
-      read = f.more_is;
-      small = (small_parts value f.rest r.values f.values_are r.small).1;
-      joined = append_assoc done (value ∷ []) f.rest ∙ ap (λ l. done ++ l) (sym f.values_are) ∙ r.joined;
-    }
+kept : (first read : List ℕ) → take (length first) (first ++ read) ≡ first
+kept [] read = refl
+kept (x ∷ first) read = ap (λ more. x ∷ more) (kept first read)
 
-pub reads_never : (done rest whole : List ℕ) → item_at rest ≡ None → 0 < length rest → ReadsOn done rest whole → ⊥
-reads_never done [] whole e h r = absurd (omega (arith, h))
-reads_never done (b ∷ rest) whole e h r =
-    let none : values_in (length (b ∷ rest)) (b ∷ rest) ≡ None = rw e refl in cc (none, r.read)
+first_kept : (first done rest body : List ℕ) → ReadsOn first done rest body → take (length first) done ≡ first
+first_kept first done rest body r = ap (take (length first)) r.done_is ∙ kept first r.read
 
-pub reads_end : (done rest whole : List ℕ) → length rest ≡ 0 → ReadsOn done rest whole → done ≡ whole
-reads_end done [] whole h r = sym (append-nil done) ∙ ap (λ l. done ++ l) (same_Some [] r.values r.read) ∙ r.joined
-reads_end done (b ∷ rest) whole h r = absurd (omega (arith, h))
+-- no more than what was there first, where no bytes are in the body
+nothing : (first done rest text : List ℕ) → ReadsOn first done rest (body_of text) → bytes_with (values_in (length (body_of text)) (body_of text)) ≡ []
+    → take (length first) done ≡ first ++ string_bytes text
+unfolding string_bytes
+nothing first done rest text r none =
+    first_kept first done rest (body_of text) r ∙ sym (append-nil first) ∙ ap (λ bytes. first ++ bytes) (sym none)
+
+pub reads_none : (first done rest text : List ℕ) → item_at rest ≡ None → 0 < length rest → ReadsOn first done rest (body_of text)
+    → take (length first) done ≡ first ++ string_bytes text
+reads_none first done [] text none more r = absurd (omega (arith, more))
+reads_none first done (b ∷ rest) text none more r =
+    let stops : values_in (length (b ∷ rest)) (b ∷ rest) ≡ None = rw none refl in
+    nothing first done (b ∷ rest) text r (ap bytes_with (r.whole ∙ ap (with_read r.read) stops))
+
+great_any : (value : ℕ) (more : List ℕ) → 255 < value → list_any is_too_great (value ∷ more) ≡ true
+great_any value more h = rw (le-leb 256 value (omega (arith, h))) refl
+
+great_bytes : (read : List ℕ) (value : ℕ) (o : Option (List ℕ)) → list_any is_too_great read ≡ false → 255 < value
+    → bytes_with (with_read read (option_map (λ values. value ∷ values) o)) ≡ []
+great_bytes read value None small h = refl
+great_bytes read value (Some more) small h = rw (any_in_both read (value ∷ more) small ∙ great_any value more h) refl
+
+pub reads_great : (first done rest text : List ℕ) (value size : ℕ) → item_at rest ≡ Some (value, size) → 255 < value → ReadsOn first done rest (body_of text)
+    → take (length first) done ≡ first ++ string_bytes text
+reads_great first done rest text value size item h r =
+    nothing first done rest text r
+    (ap bytes_with (r.whole ∙ ap (with_read r.read) (values_step rest (value, size) item))
+    ∙ great_bytes r.read value (values_in (length (drop size rest)) (drop size rest)) r.small h)
+
+all_small : (read : List ℕ) → list_any is_too_great read ≡ false → bytes_with (Some (read ++ [])) ≡ read
+all_small read small = rw (append-nil read) (rw small refl)
+
+pub reads_end : (first done rest text : List ℕ) → length rest ≡ 0 → ReadsOn first done rest (body_of text) → done ≡ first ++ string_bytes text
+unfolding string_bytes
+reads_end first done [] text h r = r.done_is ∙ ap (λ bytes. first ++ bytes) (sym (ap bytes_with r.whole ∙ all_small r.read r.small))
+reads_end first done (b ∷ rest) text h r = absurd (omega (arith, h))

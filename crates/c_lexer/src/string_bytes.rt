@@ -9,18 +9,24 @@ use crate::quoted::{body_of, item_at};
 use lay_base::{NoMemory, push};
 use std::alloc::Global;
 
-/// Adds the bytes of the string literal with this text, without an ending zero (C99 6.4.5). Called
-/// for adjacent literals in order, it joins them.
+/// Adds the bytes of the string literal with this text, without an ending zero (C99 6.4.5), and of any other text nothing. Called for adjacent literals
+/// in order, it joins them.
+#[tactic(auto, using(crate::proofs::StringBytes::reads_begin, crate::proofs::StringBytes::reads_great))]
 pub fn add_text_bytes(bytes: &mut Vec<u8>, text: &[u8]) -> Result<(), NoMemory>
-    requires { IsStringLiteral text.now }
     ensures { OnOk result (bytes.new.items ≡ bytes.old.items ++ string_bytes text.now) }
 {
+    let before = bytes.len();
     let mut rest = body_of(text);
     while !rest.is_empty() {
-        // The text is that of a literal, so a character is always found.
+        // No character of a literal is none or too great; what was added of another text goes again.
         let Some((value, count)) = item_at(rest) else {
+            bytes.truncate(before);
             return Ok(());
         };
+        if value > 255 {
+            bytes.truncate(before);
+            return Ok(());
+        }
         push(bytes, value as u8)?;
         (_, rest) = rest.split_at(count);
     }

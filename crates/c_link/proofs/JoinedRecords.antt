@@ -122,7 +122,7 @@ first_is_alike units none x h =
 
 -- ---- the program's record of a tag
 
-tags_are : (all : List Record) → map {B = List ℕ} (λ p. p.0) (map tagged all) ≡ map (λ r. r.tag) all
+pub tags_are : (all : List Record) → map {B = List ℕ} (λ p. p.0) (map tagged all) ≡ map (λ r. r.tag) all
 tags_are [] = refl
 tags_are (r ∷ more) = ap (λ rest. r.tag ∷ rest) (tags_are more)
 
@@ -146,7 +146,7 @@ only (Some y) x xs h = ap Some (heads_are y x xs h)
 
 -- ---- the number of a unit's record
 
-tag_at : (rs : List Record) (more : List (List ℕ)) (n : ℕ) (r : Record) → slice_get rs n ≡ Some r → get_or (map (λ r. r.tag) rs ++ more) n [] ≡ r.tag
+pub tag_at : (rs : List Record) (more : List (List ℕ)) (n : ℕ) (r : Record) → slice_get rs n ≡ Some r → get_or (map (λ r. r.tag) rs ++ more) n [] ≡ r.tag
 tag_at [] more n r h = cc
 tag_at (x ∷ rs) more zero r h = some_is x r h
   where
@@ -154,7 +154,7 @@ tag_at (x ∷ rs) more zero r h = some_is x r h
     some_is x y h = cc
 tag_at (x ∷ rs) more (suc n) r h = tag_at rs more n r h
 
-types_renumbered : (f : ℕ → ℕ) (fields : List Field) → map (λ f. f.ty) (map (field_in f) fields) ≡ map (renumbered f) (map (λ f. f.ty) fields)
+pub types_renumbered : (f : ℕ → ℕ) (fields : List Field) → map (λ f. f.ty) (map (field_in f) fields) ≡ map (renumbered f) (map (λ f. f.ty) fields)
 types_renumbered f [] = refl
 types_renumbered f (x ∷ more) = ap (λ rest. renumbered f x.ty ∷ rest) (types_renumbered f more)
 

@@ -109,7 +109,7 @@ abbrev pub StandAmong : (ℕ → ℕ) → List Record → List Record → Type 0
 StandAmong f records others = (n : ℕ) (r : Record) → slice_get records n ≡ Some r
     → (q : Record) × (slice_get others (f n) ≡ Some q) × (field_types q ≡ map (renumbered f) (field_types r))
 
-below : {X : Type 0} (xs : List X) (n : ℕ) → n < length xs → (x : X) × (slice_get xs n ≡ Some x)
+pub below : {X : Type 0} (xs : List X) (n : ℕ) → n < length xs → (x : X) × (slice_get xs n ≡ Some x)
 below [] n h = absurd (omega (arith, h))
 below (x ∷ more) zero h = (x, refl)
 below (x ∷ more) (suc n) h = below more n (omega (arith, h))

@@ -12,5 +12,7 @@ pub mod OneProgram
 pub mod OpenStructures
 pub mod Repeats
 pub mod TagClashes
+pub mod TextLengths
 pub mod Unlike
 pub mod TreeUses
+pub mod WholeRecords

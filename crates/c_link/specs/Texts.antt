@@ -52,3 +52,9 @@ texts_in_body (Some body) = texts_in body
 abbrev pub texts_in_functions : List FunctionData → ℕ
 texts_in_functions [] = 0
 texts_in_functions (f ∷ more) = texts_in_body f.body + texts_in_functions more
+
+-- ---- the sum of some lengths, each rounded up
+
+abbrev pub rounded : List ℕ → ℕ
+rounded [] = 0
+rounded (n ∷ more) = next_multiple_of n 4 + rounded more

@@ -61,12 +61,7 @@ fn tag_troubles(alloc: Global, tags: &KeyTable, all: &[Record]) -> Result<List<T
     let mut firsts: Vec<&Record> = Vec::new(alloc);
     for r in all {
         let number = number_of(alloc, tags, &r.tag)?;
-        add_clash(
-            alloc,
-            &mut troubles,
-            firsts.get(number as usize).copied(),
-            r,
-        )?;
+        add_clash(alloc, &mut troubles, firsts.get(number).copied(), r)?;
         put(&mut firsts, number, false, r)?;
     }
     Ok(troubles)

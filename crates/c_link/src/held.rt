@@ -12,7 +12,7 @@ use c_typed::{Function, Initial, InitialValue, Local, Object, Typed};
 use lay_base::{List, NoMemory, add};
 use std::alloc::Global;
 
-fn add_locals(all: &mut List<u32>, locals: &[Local]) -> Result<(), NoMemory>
+fn add_locals(all: &mut List<usize>, locals: &[Local]) -> Result<(), NoMemory>
     ensures { OnOk result (all.new ≡ all.old ++ map (λ l. l.ty) locals.now) }
 {
     for l in locals {
@@ -21,7 +21,7 @@ fn add_locals(all: &mut List<u32>, locals: &[Local]) -> Result<(), NoMemory>
     Ok(())
 }
 
-fn add_types(all: &mut List<u32>, objects: &[Object]) -> Result<(), NoMemory>
+fn add_types(all: &mut List<usize>, objects: &[Object]) -> Result<(), NoMemory>
     ensures { OnOk result (all.new ≡ all.old ++ flat_map types_of_object objects.now) }
 {
     for o in objects {

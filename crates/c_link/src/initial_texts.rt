@@ -1,88 +1,115 @@
 //! The bytes of the strings that initialize arrays of locals (C99 6.7.8).
 
-ghost use Rattle.std.specs.Prelude.{◌≡◌, ◌+◌, ◌-◌, ◌^◌, map, min};
+ghost use Rattle.std.specs.Prelude.{◌≡◌, ◌+◌, ◌<◌, ◌^◌, IfOk, OnOk, map};
 ghost use Rattle.std.specs.Option.{option_map};
-ghost use Rattle.c_link.specs.Texts.{texts_in, texts_in_all, texts_in_arms, texts_in_functions, texts_in_initial};
+ghost use Rattle.c_link.specs.Texts.{rounded, text_bytes, texts_in, texts_in_all, texts_in_arms, texts_in_functions, texts_in_initial};
 ghost use Rattle.c_numbers.specs.NewNumbers.Nodes.{arm_of};
 ghost use Rattle.c_typed.specs.Programs.{data_of};
-ghost use Rattle.c_typed.specs.Views.{arms_of, initializer_of, statement_of, statements_of};
+ghost use Rattle.c_typed.specs.Views.{arms_of, initializer_of, part_value_of, statement_of, statements_of};
 
 use c_typed::{Arm, Function, Initializer, PartValue, Statement};
+use lay_base::{List, NoMemory, add};
+use std::alloc::Global;
 
-/// Those of an initializer, and bytes before them. A sum stops at the greatest number, here and below.
-fn texts_in_initial(before: u64, initial: &Option<Initializer>) -> u64
-    ensures { result ≡ min (before + texts_in_initial (option_map initializer_of initial.now)) (2 ^ 64 - 1) }
+/// Adds the length of a string. A list of them has a sum that fits, which the strings of a tree alone need not have.
+#[tactic(auto, using(crate::proofs::TextLengths::one_more))]
+fn add_text(lengths: &mut List<usize>, value: &PartValue) -> Result<(), NoMemory>
+    ensures { OnOk result (rounded lengths.new ≡ rounded lengths.old + text_bytes (part_value_of value.now)) }
 {
-    let mut bytes = before;
+    match value {
+        PartValue::Value(_) | PartValue::Record(_) => Ok(()),
+        PartValue::Text(text) => add(lengths, text.len()),
+    }
+}
+
+fn in_initial(lengths: &mut List<usize>, initial: &Option<Initializer>) -> Result<(), NoMemory>
+    ensures { OnOk result (rounded lengths.new ≡ rounded lengths.old + texts_in_initial (option_map initializer_of initial.now)) }
+{
     if let Some(Initializer::Parts(all)) = initial {
         for part in all.as_slice() {
-            if let PartValue::Text(text) = &part.value {
-                let count = (text.len() as u64).checked_next_multiple_of(4);
-                bytes = bytes.saturating_add(count.unwrap_or(u64::MAX));
-            }
+            add_text(lengths, &part.value)?;
         }
     }
-    bytes
+    Ok(())
 }
 
-/// Those of a statement, and bytes before them.
 #[cycle(text_walk)]
-fn texts_in_statement(before: u64, s: &Statement) -> u64
-    ensures { result ≡ min (before + texts_in (statement_of s.now)) (2 ^ 64 - 1) }
+fn in_statement(lengths: &mut List<usize>, s: &Statement) -> Result<(), NoMemory>
+    ensures { OnOk result (rounded lengths.new ≡ rounded lengths.old + texts_in (statement_of s.now)) }
 {
     match s {
-        Statement::Block(_, all) => texts_in_statements(before, all.as_slice()),
-        Statement::Declare(_, initial) => texts_in_initial(before, initial),
+        Statement::Block(_, all) => in_statements(lengths, all.as_slice()),
+        Statement::Declare(_, initial) => in_initial(lengths, initial),
         Statement::If(_, one, other) => {
-            let bytes = texts_in_statement(before, one.get());
+            in_statement(lengths, one.get())?;
             match other {
-                None => bytes,
-                Some(other) => texts_in_statement(bytes, other.get()),
+                None => Ok(()),
+                Some(other) => in_statement(lengths, other.get()),
             }
         }
-        Statement::While(_, body) | Statement::DoWhile(body, _) => {
-            texts_in_statement(before, body.get())
-        }
-        Statement::For(_, start, _, _, body) => texts_in_statement(
-            texts_in_statements(before, start.as_slice()),
+        Statement::While(_, body) | Statement::DoWhile(body, _) => in_statement(
+            lengths,
             body.get(),
         ),
-        Statement::Switch(_, _, arms) => texts_in_arms(before, arms.as_slice()),
-        Statement::Do(_) | Statement::Break | Statement::Continue | Statement::Return(_) => before,
+        Statement::For(_, start, _, _, body) => {
+            in_statements(lengths, start.as_slice())?;
+            in_statement(lengths, body.get())
+        }
+        Statement::Switch(_, _, arms) => in_arms(lengths, arms.as_slice()),
+        Statement::Do(_) | Statement::Break | Statement::Continue | Statement::Return(_) => Ok(()),
     }
 }
 
 #[cycle(text_walk)]
-fn texts_in_statements(before: u64, all: &[Statement]) -> u64
-    ensures { result ≡ min (before + texts_in_all (statements_of (map statement_of all.now))) (2 ^ 64 - 1) }
+fn in_statements(lengths: &mut List<usize>, all: &[Statement]) -> Result<(), NoMemory>
+    ensures { OnOk result (rounded lengths.new ≡ rounded lengths.old + texts_in_all (statements_of (map statement_of all.now))) }
 {
-    let mut bytes = before;
     for s in all {
-        bytes = texts_in_statement(bytes, s);
+        in_statement(lengths, s)?;
     }
-    bytes
+    Ok(())
 }
 
 #[cycle(text_walk)]
-fn texts_in_arms(before: u64, arms: &[Arm]) -> u64
-    ensures { result ≡ min (before + texts_in_arms (arms_of (map arm_of arms.now))) (2 ^ 64 - 1) }
+fn in_arms(lengths: &mut List<usize>, arms: &[Arm]) -> Result<(), NoMemory>
+    ensures { OnOk result (rounded lengths.new ≡ rounded lengths.old + texts_in_arms (arms_of (map arm_of arms.now))) }
 {
-    let mut bytes = before;
     for arm in arms {
-        bytes = texts_in_statements(bytes, arm.statements.as_slice());
+        in_statements(lengths, arm.statements.as_slice())?;
     }
-    bytes
+    Ok(())
 }
 
-/// Those of functions, and bytes before them.
-pub fn texts_in_functions(before: u64, functions: &[Function]) -> u64
-    ensures { result ≡ min (before + texts_in_functions (map data_of functions.now)) (2 ^ 64 - 1) }
+/// The lengths of those of functions.
+fn lengths_in(alloc: Global, functions: &[Function]) -> Result<List<usize>, NoMemory>
+    ensures { IfOk result (λ lengths. rounded lengths ≡ texts_in_functions (map data_of functions.now)) }
 {
-    let mut bytes = before;
+    let mut lengths = List::new(alloc);
     for f in functions {
         if let Some(body) = &f.body {
-            bytes = texts_in_statement(bytes, body);
+            in_statement(&mut lengths, body)?;
         }
     }
+    Ok(lengths)
+}
+
+/// The sum of some lengths, each rounded up.
+fn sum_of(lengths: &[usize]) -> u128
+    ensures value { result ≡ rounded lengths.now }
+    ensures fits { result < 2 ^ 127 + 2 ^ 66 }
+{
+    let mut bytes: u128 = 0;
+    for length in lengths {
+        bytes += (*length as u128).next_multiple_of(4);
+    }
     bytes
+}
+
+/// The bytes of those of functions.
+pub fn texts_in_functions(alloc: Global, functions: &[Function]) -> Result<u128, NoMemory>
+    ensures value { IfOk result (λ n. n ≡ texts_in_functions (map data_of functions.now)) }
+    ensures fits { IfOk result (λ n. n < 2 ^ 127 + 2 ^ 66) }
+{
+    let lengths = lengths_in(alloc, functions)?;
+    Ok(sum_of(lengths.as_slice()))
 }

@@ -4,7 +4,7 @@
 //! It stands on `c_joining`, which joins units, and on `c_typed` and `c_erasure`. It promises that what it answers is the program of the units, or
 //! the first gap in the order in which gaps are looked for; and that each walk collects the list of its definition.
 //!
-//! A sum of bytes that does not stay below 2^64 - 1 is answered with want of memory; no memory holds as many. What a walk found before `NoMemory` is not said.
+//! What a walk found before `NoMemory` is not said.
 #![tactic(auto)]
 
 mod clashes;
@@ -24,5 +24,5 @@ mod troubles;
 pub use gap::Gap;
 pub use limits::Passed;
 pub use linking::link;
-pub use tree_uses::{Reference, references_by_statement, statement_types};
+pub use tree_uses::{Reference, references_by_statement};
 pub use troubles::Trouble;

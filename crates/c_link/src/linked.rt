@@ -33,13 +33,13 @@ fn add_linked(
     all: &mut List<Linked>,
     name: &Name,
     place: Place,
-    number: u32,
+    number: usize,
     is_defined: bool,
 ) -> Result<(), NoMemory>
     ensures { OnOk result (map linked_of all.new ≡ map linked_of all.old ++ record { name = name.now; place = place; ty = renumbered (number_at records.now) (get_or (map type_of types.now) number void); is_defined = is_defined } ∷ []) }
 {
     let name = copy_of_name(alloc, name)?;
-    let ty = match types.get(number as usize) {
+    let ty = match types.get(number) {
         Some(t) => renumbered_type(alloc, records, t)?,
         None => Ty::Void,
     };

@@ -6,6 +6,7 @@ ghost use Rattle.c_link.specs.Counting.{AreMeasured, IsCountable};
 ghost use Rattle.c_link.specs.Gaps.{Agree, HasMain};
 ghost use Rattle.c_link.specs.Linking.{AgreeGives, CompleteGives, LinkGives, WithinGives};
 ghost use Rattle.c_typed.specs.Programs.{program_data, unit_data};
+ghost use Rattle.c_types.specs.Limits.{AreSmall};
 
 use crate::clashes::tag_clash;
 use crate::gap::Gap;
@@ -41,10 +42,10 @@ fn agree(alloc: Global, tags: &KeyTable, units: &[Unit]) -> Result<(), Gap>
 }
 
 /// A copy of the tag with a number; there is none past the list's end.
-fn tag_of(alloc: Global, tags: &[Name], number: u32) -> Result<Name, NoMemory>
+fn tag_of(alloc: Global, tags: &[Name], number: usize) -> Result<Name, NoMemory>
     ensures { IfOk result (λ x. x ≡ get_or tags.now number []) }
 {
-    match tags.get(number as usize) {
+    match tags.get(number) {
         Some(tag) => copy_of_name(alloc, tag),
         None => Ok(Name::of(Vec::new(alloc))),
     }
@@ -54,7 +55,7 @@ fn tag_of(alloc: Global, tags: &[Name], number: u32) -> Result<Name, NoMemory>
 fn has_main(p: &Typed) -> bool
     ensures { IsTrue result ↔ HasMain (program_data p.now) }
 {
-    match p.functions.get(p.main as usize) {
+    match p.functions.get(p.main) {
         Some(f) => f.body.is_some(),
         None => false,
     }
@@ -78,13 +79,22 @@ fn complete(alloc: Global, tags: &[Name], p: &Typed) -> Result<(), Gap>
 }
 
 /// A program whose limits are not passed.
-fn within_limits(p: Typed) -> Result<Typed, Gap>
+fn within_limits(alloc: Global, p: Typed) -> Result<Typed, Gap>
     requires { AreMeasured (program_data p) }
     ensures { WithinGives (program_data p) result }
 {
-    match limit_past(&p)? {
+    match limit_past(alloc, &p)? {
         Some(it) => Err(Gap::Limit(it)),
         None => Ok(p),
+    }
+}
+
+/// The records of a unit are small: the types of a unit say so. Nothing is done.
+fn records_are_small(units: &[Unit])
+    ensures { All (λ u. AreSmall u.records) (map unit_data units.now) }
+{
+    for u in units {
+        records_are_complete(&u.records);
     }
 }
 
@@ -96,11 +106,11 @@ fn whole_program(alloc: Global, tags: &[Name], units: List<Unit>) -> Result<Type
     requires countable { All IsCountable (map unit_data units) }
     ensures { LinkGives (map unit_data units) result }
 {
+    records_are_small(units.as_slice());
     let p = join(alloc, units)?;
-    records_are_complete(&p.records);
     match complete(alloc, tags, &p) {
         Err(gap) => Err(gap),
-        Ok(()) => within_limits(p),
+        Ok(()) => within_limits(alloc, p),
     }
 }
 

@@ -11,19 +11,18 @@ ghost use Rattle.c_numbers.specs.KeyNumbers.Keys.{is_among};
 use crate::held::held_by;
 use crate::tree_uses::Reference;
 use crate::troubles::{Trouble, add_trouble, earliest};
-use c_joining::next;
 use c_numbers::KeyTable;
 use c_typed::{Function, Object, Typed};
 use lay_base::{List, NoMemory, copied};
 use std::alloc::Global;
 
 /// The key of a reference.
-fn key_of(alloc: Global, reference: Reference) -> Result<Vec<u32>, NoMemory>
+fn key_of(alloc: Global, reference: Reference) -> Result<Vec<u64>, NoMemory>
     ensures { IfOk result (λ key. key.items ≡ key_of (reference_of reference)) }
 {
     let key = match reference {
-        Reference::Object(n) => [0, n],
-        Reference::Function(f) => [1, f],
+        Reference::Object(n) => [0, n as u64],
+        Reference::Function(f) => [1, f as u64],
     };
     copied(alloc, &key)
 }
@@ -62,12 +61,10 @@ fn add_objects(
 ) -> Result<(), NoMemory>
     ensures { OnOk result (map trouble_of missing.new ≡ map trouble_of missing.old ++ objects_nowhere used.now 0 objects.now) }
 {
-    let mut n: u32 = 0;
-    for o in objects {
+    for (n, o) in objects.iter().enumerate() {
         if o.initial.is_none() && is_used(alloc, used, Reference::Object(n))? {
             add_trouble(alloc, missing, &o.name, o.place, o.place)?;
         }
-        n = next(n)?;
     }
     Ok(())
 }
@@ -80,12 +77,10 @@ fn add_functions(
 ) -> Result<(), NoMemory>
     ensures { OnOk result (map trouble_of missing.new ≡ map trouble_of missing.old ++ functions_nowhere used.now 0 (map data_of functions.now)) }
 {
-    let mut n: u32 = 0;
-    for f in functions {
+    for (n, f) in functions.iter().enumerate() {
         if f.body.is_none() && is_used(alloc, used, Reference::Function(n))? {
             add_trouble(alloc, missing, &f.name, f.place, f.place)?;
         }
-        n = next(n)?;
     }
     Ok(())
 }

@@ -90,7 +90,7 @@ fn name_troubles(
     let mut firsts: Vec<&Linked> = Vec::new(alloc);
     for l in all {
         let number = number_of(alloc, names, &l.name)?;
-        let first = firsts.get(number as usize).copied();
+        let first = firsts.get(number).copied();
         tell(alloc, asked, &mut troubles, first, l)?;
         put(&mut firsts, number, takes_place(asked, first, l), l)?;
     }

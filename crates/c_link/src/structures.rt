@@ -13,7 +13,7 @@ use c_types::{Field, Record, Ty};
 use lay_base::{NoMemory, push};
 use std::alloc::Global;
 
-fn lesser_of(best: Option<u32>, n: u32) -> Option<u32>
+fn lesser_of(best: Option<usize>, n: usize) -> Option<usize>
     ensures { result ≡ lesser_of best n }
 {
     match best {
@@ -24,7 +24,7 @@ fn lesser_of(best: Option<u32>, n: u32) -> Option<u32>
 
 /// The least number of a structure from `count` on, among those in a type and one found before.
 #[tactic(auto, using(crate::proofs::OpenStructures::least_append))]
-fn least_among(count: u32, best: Option<u32>, t: &Ty) -> Option<u32>
+fn least_among(count: usize, best: Option<usize>, t: &Ty) -> Option<usize>
     ensures { result ≡ least_among count best (structures_in (type_of t.now)) }
 {
     match t {
@@ -43,7 +43,7 @@ fn least_among(count: u32, best: Option<u32>, t: &Ty) -> Option<u32>
 }
 
 /// The least number in each type.
-fn least_of_each(alloc: Global, count: u32, types: &[Ty]) -> Result<Vec<Option<u32>>, NoMemory>
+fn least_of_each(alloc: Global, count: usize, types: &[Ty]) -> Result<Vec<Option<usize>>, NoMemory>
     ensures { IfOk result (λ leasts. leasts.items ≡ map (least_in count) (map type_of types.now)) }
 {
     let mut leasts = Vec::new(alloc);
@@ -54,7 +54,7 @@ fn least_of_each(alloc: Global, count: u32, types: &[Ty]) -> Result<Vec<Option<u
 }
 
 #[tactic(auto, using(crate::proofs::OpenStructures::least_append))]
-fn least_in_fields(count: u32, best: Option<u32>, fields: &[Field]) -> Option<u32>
+fn least_in_fields(count: usize, best: Option<usize>, fields: &[Field]) -> Option<usize>
     ensures { result ≡ least_among count best (flat_map structures_in (map (λ f. f.ty) (map field_of fields.now))) }
 {
     let mut best = best;
@@ -65,7 +65,7 @@ fn least_in_fields(count: u32, best: Option<u32>, fields: &[Field]) -> Option<u3
 }
 
 #[tactic(auto, using(crate::proofs::OpenStructures::least_append))]
-fn least_in_records(count: u32, records: &[Record]) -> Option<u32>
+fn least_in_records(count: usize, records: &[Record]) -> Option<usize>
     ensures { result ≡ least_among count None (flat_map structures_in (flat_map field_types (records_of records.now))) }
 {
     let mut best = None;
@@ -75,7 +75,7 @@ fn least_in_records(count: u32, records: &[Record]) -> Option<u32>
     best
 }
 
-fn have_none(leasts: &[Option<u32>]) -> bool
+fn have_none(leasts: &[Option<usize>]) -> bool
     ensures { result ≡ have_none leasts.now }
 {
     for least in leasts {
@@ -91,9 +91,9 @@ fn have_none(leasts: &[Option<u32>]) -> bool
 fn least_in_held(
     alloc: Global,
     p: &Typed,
-    best: Option<u32>,
-    leasts: &[Option<u32>],
-) -> Result<Option<u32>, NoMemory>
+    best: Option<usize>,
+    leasts: &[Option<usize>],
+) -> Result<Option<usize>, NoMemory>
     ensures { IfOk result (λ least. least ≡ fold (lesser_at leasts.now) best (flat_map types_of_object (program_data p.now).objects ++ flat_map types_of_function (program_data p.now).functions)) }
 {
     if have_none(leasts) {
@@ -103,7 +103,7 @@ fn least_in_held(
     let numbers = held.types.as_slice();
     let mut best = best;
     for number in numbers {
-        if let Some(Some(n)) = leasts.get(*number as usize) {
+        if let Some(Some(n)) = leasts.get(*number) {
             best = lesser_of(best, *n);
         }
     }
@@ -111,7 +111,7 @@ fn least_in_held(
 }
 
 /// The least number of a structure that no file completes, where a type of the program holds one.
-pub fn least_open(alloc: Global, p: &Typed) -> Result<Option<u32>, NoMemory>
+pub fn least_open(alloc: Global, p: &Typed) -> Result<Option<usize>, NoMemory>
     ensures { IfOk result (λ found. MatchOption found (open_structures (program_data p.now) ≡ []) (λ r. IsLeast (open_structures (program_data p.now)) r)) }
 {
     let count = p.records.len();

@@ -6,5 +6,5 @@ mod found_in_expressions;
 mod found_in_statements;
 mod reference;
 
-pub use found_in_statements::{in_statement, references_by_statement, statement_types};
+pub use found_in_statements::{in_statement, references_by_statement};
 pub use reference::{Found, Reference};

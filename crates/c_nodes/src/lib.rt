@@ -4,8 +4,6 @@
 //!
 //! It stands on `c_annotated` and mirrors the functions of `c_erasure`'s checker that ask nothing of the names of a file, one for one. It promises that each
 //! answers what the definition of its name says, or that no memory was left.
-//!
-//! Want of memory is also answered for a field past number 2^32 of a structure, which the limits of types rule out.
 #![tactic(auto)]
 
 mod declarator_types;

@@ -65,7 +65,7 @@ pub fn convert(alloc: Global, t: &Ty, x: Boxed<Expression>) -> Result<Boxed<Expr
     if same(&x.get().ty, t) {
         return Ok(x);
     }
-    let ty = copy(t)?;
+    let ty = copy(alloc, t)?;
     let place = x.get().place;
     boxed(
         alloc,
@@ -98,8 +98,8 @@ pub fn object_value(alloc: Global, p: Boxed<Path>) -> Result<Option<Boxed<Expres
     let place = p.get().place;
     let (ty, is_array) = match &p.get().ty {
         Ty::Int(kind) => (Ty::Int(*kind), false),
-        Ty::Pointer(to) => (Ty::Pointer(to.again()?), false),
-        Ty::Array(element, _) => (Ty::Pointer(element.again()?), true),
+        Ty::Pointer(_) => (copy(alloc, &p.get().ty)?, false),
+        Ty::Array(element, _) => (pointer_to(alloc, copy(alloc, element.get())?)?, true),
         _ => return Ok(None),
     };
     let node = if is_array {

@@ -20,7 +20,7 @@ use std::alloc::Global;
 pub fn unmade(alloc: Global, at: Place, t: &Ty) -> Result<Thing, Fault>
     ensures { Gives thing_of result (Ok (unmade_of at (type_of t.now))) }
 {
-    let ty = pointer_to(alloc, copy(t)?)?;
+    let ty = pointer_to(alloc, copy(alloc, t)?)?;
     let null = Expression {
         ty,
         note: None,
@@ -28,7 +28,7 @@ pub fn unmade(alloc: Global, at: Place, t: &Ty) -> Result<Thing, Fault>
         node: ExpressionNode::Null,
     };
     let null = boxed(alloc, null)?;
-    way(alloc, copy(t)?, at, PathNode::Deref(null))
+    way(alloc, copy(alloc, t)?, at, PathNode::Deref(null))
 }
 
 /// What a name designates that stands for this.
@@ -46,10 +46,10 @@ fn entity(alloc: Global, at: Place, x: &[u8], it: &Entity) -> Result<Thing, Faul
                 ExpressionNode::Constant(*v),
             )
         }
-        Entity::Object(n, t) => way(alloc, copy(t)?, at, PathNode::Object(*n)),
-        Entity::Function(f, t) => Ok(Thing::Function(at, *f, copy(t)?)),
+        Entity::Object(n, t) => way(alloc, copy(alloc, t)?, at, PathNode::Object(*n)),
+        Entity::Function(f, t) => Ok(Thing::Function(at, *f, copy(alloc, t)?)),
         Entity::LibraryFunction(which) => Ok(Thing::LibraryFunction(at, *which)),
-        Entity::Local(n, t) => way(alloc, copy(t)?, at, PathNode::Named(*n)),
+        Entity::Local(n, t) => way(alloc, copy(alloc, t)?, at, PathNode::Named(*n)),
         Entity::Parameter(t) => unmade(alloc, at, t),
     }
 }

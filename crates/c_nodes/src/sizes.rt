@@ -28,7 +28,7 @@ pub struct SizedType {
 }
 
 /// Whether a type fully describes an object, and all records in it are in the list.
-pub fn is_complete(records: &Records, count: u32, t: &Ty) -> bool
+pub fn is_complete(records: &Records, count: usize, t: &Ty) -> bool
     ensures { result ≡ complete_in (records_of records.now) count (type_of t.now) }
 {
     is_object(count, t) && is_object(records.len(), t)
@@ -73,7 +73,7 @@ pub fn may_be_pointed_to(t: &Ty) -> bool
 #[tactic(auto, using(crate::proofs::Limits::of_small_size))]
 fn sized_or(
     records: &Records,
-    count: u32,
+    count: usize,
     at: u32,
     rule: Rule,
     there: u32,
@@ -93,7 +93,7 @@ fn sized_or(
 
 /// A type whose size is asked, with its size. A fault is named at `at`.
 #[tactic(auto, unfolding(c_erasure::specs::Checking::Nodes::sized_type))]
-pub fn sized(records: &Records, count: u32, at: u32, t: Ty) -> Result<SizedType, Fault>
+pub fn sized(records: &Records, count: usize, at: u32, t: Ty) -> Result<SizedType, Fault>
     ensures { Gives sized_view result (sized_in (records_of records.now) count at (type_of t)) }
 {
     sized_or(records, count, at, Rule::Incomplete, at, t)
@@ -101,12 +101,12 @@ pub fn sized(records: &Records, count: u32, at: u32, t: Ty) -> Result<SizedType,
 
 /// The type of an operand of `sizeof`; a function has none.
 #[tactic(auto, unfolding(c_erasure::specs::Checking::Nodes::measured_type))]
-fn measured_type(thing: &Thing) -> Result<Option<Ty>, NoMemory>
+fn measured_type(alloc: Global, thing: &Thing) -> Result<Option<Ty>, NoMemory>
     ensures { IfOk result (λ t. option_map type_of t ≡ type_measured (thing_of thing.now)) }
 {
     match thing {
-        Thing::Object(p) => Ok(Some(copy(&p.get().ty)?)),
-        Thing::Value(e) => Ok(Some(copy(&e.get().ty)?)),
+        Thing::Object(p) => Ok(Some(copy(alloc, &p.get().ty)?)),
+        Thing::Value(e) => Ok(Some(copy(alloc, &e.get().ty)?)),
         _ => Ok(None),
     }
 }
@@ -114,8 +114,9 @@ fn measured_type(thing: &Thing) -> Result<Option<Ty>, NoMemory>
 /// The type of an operand of `sizeof`, which begins at `from`, with its size. `sizeof` stands at `at`.
 #[tactic(auto, unfolding(c_erasure::specs::Checking::Nodes::measured_in))]
 pub fn measured(
+    alloc: Global,
     records: &Records,
-    count: u32,
+    count: usize,
     at: u32,
     from: u32,
     thing: &Thing,
@@ -123,7 +124,7 @@ pub fn measured(
     ensures { Gives sized_view result (with_size (records_of records.now) (measured_in (records_of records.now) count at from (thing_of thing.now))) }
 {
     let (rule, there) = misplaced(thing, Rule::Incomplete, at, from);
-    match measured_type(thing)? {
+    match measured_type(alloc, thing)? {
         Some(t) => sized_or(records, count, at, rule, there, t),
         None => Err(Fault::IllTyped(rule, there)),
     }

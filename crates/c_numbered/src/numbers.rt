@@ -10,7 +10,7 @@ use lay_base::NoMemory;
 use std::alloc::Global;
 
 /// The number of a type, which is let go.
-pub fn number_of(alloc: Global, types: &TypeTable, t: Ty) -> Result<u32, NoMemory>
+pub fn number_of(alloc: Global, types: &TypeTable, t: Ty) -> Result<usize, NoMemory>
     ensures { IfOk result (λ n. n ≡ number_in (map type_of types.now) (type_of t)) }
 {
     types.number(alloc, &t)

@@ -35,7 +35,7 @@ fn test_and_step(
 }
 
 /// The numbers of locals, or the values of `case` labels.
-fn copy_of(alloc: Global, numbers: &List<u32>) -> Result<List<u32>, NoMemory>
+fn copy_of<T: Copy>(alloc: Global, numbers: &List<T>) -> Result<List<T>, NoMemory>
     ensures { IfOk result (λ r. r ≡ numbers.now) }
 {
     let numbers = copied(alloc, numbers.as_slice())?;

@@ -23,7 +23,7 @@ type Allocation = (Option<Boxed<Expression>>, bool);
 
 /// Whether `malloc` with those arguments allocates records with a number.
 #[tactic(auto, using(crate::proofs::Calls::malloc_of_more))]
-fn is_malloc_of(r: u32, all: &[Expression]) -> bool
+fn is_malloc_of(r: usize, all: &[Expression]) -> bool
     ensures { result ≡ is_some (malloc_count r (expressions_of (map expression_of all.now))) }
 {
     match all {
@@ -34,7 +34,7 @@ fn is_malloc_of(r: u32, all: &[Expression]) -> bool
 
 /// Whether `calloc` with those arguments allocates records with a number.
 #[tactic(auto, using(crate::proofs::Calls::calloc_of_less, crate::proofs::Calls::calloc_of_two, crate::proofs::Calls::calloc_of_more))]
-fn is_calloc_of(r: u32, all: &[Expression]) -> bool
+fn is_calloc_of(r: usize, all: &[Expression]) -> bool
     ensures { result ≡ is_some (calloc_count r (expressions_of (map expression_of all.now))) }
 {
     match all {
@@ -45,7 +45,7 @@ fn is_calloc_of(r: u32, all: &[Expression]) -> bool
 
 /// Whether an expression allocates records with a number.
 #[tactic(auto, using(crate::proofs::Calls::malloc_found, crate::proofs::Calls::calloc_found))]
-fn allocates(r: u32, e: &Expression) -> bool
+fn allocates(r: usize, e: &Expression) -> bool
     ensures { result ≡ is_some (allocation r (expression_of e.now)) }
 {
     match &e.node {
@@ -58,7 +58,7 @@ fn allocates(r: u32, e: &Expression) -> bool
 /// How many records with a number `malloc` with those arguments allocates. There are no others for which it is asked.
 fn malloc_count(
     alloc: Global,
-    r: u32,
+    r: usize,
     all: &mut List<Expression>,
 ) -> Result<Option<Boxed<Expression>>, NoMemory>
     requires { IsTrue (is_some (malloc_count r (expressions_of (map expression_of all.old)))) }
@@ -73,7 +73,7 @@ fn malloc_count(
 /// How many records with a number `calloc` with those arguments allocates. There are no others for which it is asked.
 fn calloc_count(
     alloc: Global,
-    r: u32,
+    r: usize,
     all: &mut List<Expression>,
 ) -> Result<Option<Boxed<Expression>>, NoMemory>
     requires { IsTrue (is_some (calloc_count r (expressions_of (map expression_of all.old)))) }
@@ -91,7 +91,7 @@ fn calloc_count(
 /// What a call of the library with those arguments allocates. There are no others for which it is asked.
 fn by_call(
     alloc: Global,
-    r: u32,
+    r: usize,
     which: LibraryFunction,
     all: &mut List<Expression>,
 ) -> Result<Allocation, NoMemory>
@@ -112,7 +112,7 @@ fn by_call(
 }
 
 /// What an expression that allocates records with a number allocates. There is no other expression for which it is asked.
-fn allocation(alloc: Global, r: u32, e: &mut Expression) -> Result<Allocation, NoMemory>
+fn allocation(alloc: Global, r: usize, e: &mut Expression) -> Result<Allocation, NoMemory>
     requires { IsTrue (is_some (allocation r (expression_of e.old))) }
     ensures { IfOk result (λ a. allocation r (expression_of e.old) ≡ Some (optional_of (option_map expression_of a.0), a.1)) }
 {
@@ -147,7 +147,7 @@ enum Becomes {
     Same,
     Null,
     /// An allocation of records with that number.
-    Records(u32),
+    Records(usize),
 }
 
 /// What a node of a type becomes, where its operands are done.
@@ -180,7 +180,7 @@ fn put(node: &mut ExpressionNode, other: ExpressionNode)
 }
 
 /// Makes a conversion that allocates records with a number an allocation. There is no other node for which it is asked.
-fn allocate(alloc: Global, r: u32, node: &mut ExpressionNode) -> Result<(), NoMemory>
+fn allocate(alloc: Global, r: usize, node: &mut ExpressionNode) -> Result<(), NoMemory>
     requires { IsTrue (may_allocate r (node_of node.old)) }
     ensures { OnOk result (node_of node.new ≡ allocated_by r (node_of node.old)) }
 {

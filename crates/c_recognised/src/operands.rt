@@ -25,7 +25,7 @@ fn add_noted(found: &mut List<u32>, note: &Option<Boxed<SizeOf>>) -> Result<(), 
 }
 
 /// Adds where the size of the record with a number stands, if an expression is that.
-fn add_constant(found: &mut List<u32>, r: u32, e: &Expression) -> Result<(), NoMemory>
+fn add_constant(found: &mut List<u32>, r: usize, e: &Expression) -> Result<(), NoMemory>
     ensures { OnOk result (found.new ≡ found.old ++ constant_place r (expression_of e.now)) }
 {
     if is_constant_of(r, e) {
@@ -36,14 +36,14 @@ fn add_constant(found: &mut List<u32>, r: u32, e: &Expression) -> Result<(), NoM
 }
 
 /// Adds where the size of the record with a number stands, if an expression is that, converted or not.
-fn add_size(found: &mut List<u32>, r: u32, e: &Expression) -> Result<(), NoMemory>
+fn add_size(found: &mut List<u32>, r: usize, e: &Expression) -> Result<(), NoMemory>
     ensures { OnOk result (found.new ≡ found.old ++ size_place r (expression_of e.now)) }
 {
     add_constant(found, r, lent_unconverted(e))
 }
 
 /// Adds where that size stands in a number of bytes.
-fn add_bytes(found: &mut List<u32>, r: u32, e: &Expression) -> Result<(), NoMemory>
+fn add_bytes(found: &mut List<u32>, r: usize, e: &Expression) -> Result<(), NoMemory>
     ensures { OnOk result (found.new ≡ found.old ++ bytes_place r (expression_of e.now)) }
 {
     match &e.node {
@@ -60,7 +60,7 @@ fn add_bytes(found: &mut List<u32>, r: u32, e: &Expression) -> Result<(), NoMemo
 
 /// Adds where that size stands in the arguments of `malloc`.
 #[tactic(auto, using(crate::proofs::SizeCalls::malloc_of_more))]
-fn add_malloc(found: &mut List<u32>, r: u32, all: &[Expression]) -> Result<(), NoMemory>
+fn add_malloc(found: &mut List<u32>, r: usize, all: &[Expression]) -> Result<(), NoMemory>
     ensures { OnOk result (found.new ≡ found.old ++ malloc_place r (expressions_of (map expression_of all.now))) }
 {
     match all {
@@ -71,7 +71,7 @@ fn add_malloc(found: &mut List<u32>, r: u32, all: &[Expression]) -> Result<(), N
 
 /// Adds where that size stands in the arguments of `calloc`.
 #[tactic(auto, using(crate::proofs::SizeCalls::calloc_of_less, crate::proofs::SizeCalls::calloc_of_more))]
-fn add_calloc(found: &mut List<u32>, r: u32, all: &[Expression]) -> Result<(), NoMemory>
+fn add_calloc(found: &mut List<u32>, r: usize, all: &[Expression]) -> Result<(), NoMemory>
     ensures { OnOk result (found.new ≡ found.old ++ calloc_place r (expressions_of (map expression_of all.now))) }
 {
     match all {
@@ -81,7 +81,7 @@ fn add_calloc(found: &mut List<u32>, r: u32, all: &[Expression]) -> Result<(), N
 }
 
 /// Adds the size operand of a call that allocates records with a number.
-fn add_call(found: &mut List<u32>, r: u32, e: &Expression) -> Result<(), NoMemory>
+fn add_call(found: &mut List<u32>, r: usize, e: &Expression) -> Result<(), NoMemory>
     ensures { OnOk result (found.new ≡ found.old ++ call_place r (expression_of e.now)) }
 {
     match &e.node {

@@ -19,7 +19,7 @@ use std::alloc::Global;
 use std::mem::replace;
 
 /// Whether a type is that of the record with a number.
-fn is_record(r: u32, t: &Ty) -> bool
+fn is_record(r: usize, t: &Ty) -> bool
     ensures { result ≡ same_type (type_of t.now) (structure r) }
 {
     match t {
@@ -29,7 +29,7 @@ fn is_record(r: u32, t: &Ty) -> bool
 }
 
 /// Whether a note is the size of the record with a number.
-fn is_note_of(r: u32, note: &Option<Boxed<SizeOf>>) -> bool
+fn is_note_of(r: usize, note: &Option<Boxed<SizeOf>>) -> bool
     ensures { result ≡ is_note_of r (note_of note.now) }
 {
     match note {
@@ -65,7 +65,7 @@ fn take(e: &mut Expression) -> Expression
 }
 
 /// Whether an expression is a constant that is the size of the record with a number.
-pub fn is_constant_of(r: u32, e: &Expression) -> bool
+pub fn is_constant_of(r: usize, e: &Expression) -> bool
     ensures { result ≡ is_constant_of r (expression_of e.now) }
 {
     match &e.node {
@@ -75,14 +75,14 @@ pub fn is_constant_of(r: u32, e: &Expression) -> bool
 }
 
 /// Whether an expression is the size of the record with a number, converted or not.
-pub fn is_size(r: u32, e: &Expression) -> bool
+pub fn is_size(r: usize, e: &Expression) -> bool
     ensures { result ≡ is_size r (expression_of e.now) }
 {
     is_constant_of(r, lent_unconverted(e))
 }
 
 /// Whether a number of bytes is that of some records with a number.
-fn is_product_of(r: u32, e: &Expression) -> bool
+fn is_product_of(r: usize, e: &Expression) -> bool
     ensures { result ≡ is_some (counted r (expression_of e.now)) }
 {
     match &e.node {
@@ -94,7 +94,7 @@ fn is_product_of(r: u32, e: &Expression) -> bool
 }
 
 /// Whether a number of bytes, converted or not, is that of some records with a number.
-pub fn is_counted(r: u32, e: &Expression) -> bool
+pub fn is_counted(r: usize, e: &Expression) -> bool
     ensures { result ≡ is_some (counted r (unconverted (expression_of e.now))) }
 {
     is_product_of(r, lent_unconverted(e))
@@ -148,7 +148,7 @@ pub fn as_unsigned(alloc: Global, e: &mut Expression) -> Result<Boxed<Expression
 /// How many records a number of bytes is, where it is one of theirs. There is no other expression for which it is asked.
 fn counted_from(
     alloc: Global,
-    r: u32,
+    r: usize,
     e: &mut Expression,
 ) -> Result<Option<Boxed<Expression>>, NoMemory>
     requires { IsTrue (is_some (counted r (expression_of e.old))) }
@@ -175,7 +175,7 @@ fn counted_from(
 /// asked.
 pub fn counted(
     alloc: Global,
-    r: u32,
+    r: usize,
     e: &mut Expression,
 ) -> Result<Option<Boxed<Expression>>, NoMemory>
     requires { IsTrue (is_some (counted r (unconverted (expression_of e.old)))) }

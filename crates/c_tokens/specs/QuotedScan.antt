@@ -1,7 +1,7 @@
 -- Reading character constants and string literals from the left: what the private functions compute. No public clause
 -- cites it.
 use Rattle.std.specs.Prelude.{ℕ, zero, suc, ◌+◌, ◌*◌, min, nat_le, ◌==◌, Bool, true, false, List, [], ◌∷◌, take, drop, fold, length, Option, Some}
-use Rattle.std.specs.Prelude.{None, option_map, unwrap_or, ◌-◌, Result, Ok, Err, if◌then◌else◌}
+use Rattle.std.specs.Prelude.{None, option_map, ◌-◌, Result, Ok, Err, if◌then◌else◌}
 use Rattle.std.specs.List.{prefix_len, list_any}
 use Rattle.c_tokens.specs.declared.fault.FaultKind.{FaultKind}
 use Rattle.c_tokens.specs.declared.fault.FaultKind.TheVariants.{BadLiteral, TooWide}
@@ -76,6 +76,11 @@ character_of word = let body = body_of word in character_with (length body) (ite
 unfoldable pub string_of : List ℕ → Result TokenKind FaultKind
 string_of word = let body = body_of word in text_with (values_in (length body) body)
 
--- the bytes of the string literal that a word is
+-- the bytes that the values of all characters are, where none is too great
+abbrev pub bytes_with : Option (List ℕ) → List ℕ
+bytes_with None = []
+bytes_with (Some values) = if list_any is_too_great values then [] else values
+
+-- the bytes of the string literal that a word is; of any other word, none
 unfoldable pub string_bytes : List ℕ → List ℕ
-string_bytes word = let body = body_of word in unwrap_or (values_in (length body) body) []
+string_bytes word = let body = body_of word in bytes_with (values_in (length body) body)

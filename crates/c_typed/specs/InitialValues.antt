@@ -1,6 +1,6 @@
 -- The values that an object may hold before the program starts (C99 6.6, 6.7.8): numbers, null pointers, and addresses of functions and of
 -- objects that live as long as the program, with a number of bytes.
-use Rattle.std.specs.Prelude.{ℕ, Bool, true, false, ◌&&◌, if◌then◌else◌, nat_le, nat_lt, ℤ, pos, negsuc, ◌+ℤ◌, ◌*ℤ◌, List, Option, Some, None}
+use Rattle.std.specs.Prelude.{ℕ, Bool, true, false, ◌&&◌, if◌then◌else◌, nat_le, nat_lt, min, ◌-◌, ◌^◌, ℤ, pos, negsuc, ◌+ℤ◌, ◌*ℤ◌, List, Option, Some, None}
 use Rattle.std.specs.Prelude.{get_or}
 use Rattle.c_types.specs.declared.ty.IntKind.{IntKind}
 use Rattle.c_types.specs.Types.{CType, void, integer, pointer, array, Record}
@@ -38,9 +38,13 @@ abbrev pub negated : ℤ → ℤ
 negated z = negsuc 0 *ℤ z
 
 module _ (d : Declared) where
+  -- the end of an object, which is a number of 32 bits
+  abbrev pub end_of : (object : ℕ) → ℕ
+  end_of n = min (size_of d.records (get_or d.objects n void)) (2 ^ 32 - 1)
+
   abbrev pub within : ℕ → ℤ → Option Address
   within n (negsuc k) = None
-  within n (pos offset) = if nat_le offset (size_of d.records (get_or d.objects n void)) then Some (record { object = n; offset = offset }) else None
+  within n (pos offset) = if nat_le offset (end_of n) then Some (record { object = n; offset = offset }) else None
 
   -- so many elements further on in the object, and at most at its end
   abbrev pub moved : Option Address → Option ℤ → (size : ℕ) → Option Address

@@ -164,7 +164,7 @@ pub fn is_void_pointer(t: Option<&Ty>) -> bool
 fn type_at(types: &[Ty], number: TypeId) -> Option<&Ty>
     ensures { option_copied result ≡ slice_get types.now number }
 {
-    types.get(number as usize)
+    types.get(number)
 }
 
 /// The type of an expression, in a list of types; none where its number is past the end.

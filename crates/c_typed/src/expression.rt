@@ -4,7 +4,7 @@ use crate::operators::{BinaryOp, CompareOp, LibraryFunction, PointerOp, StepOp, 
 use lay_base::{Boxed, List, Place};
 
 /// A type's place in the list of types of its program.
-pub type TypeId = u32;
+pub type TypeId = usize;
 
 /// An expression that has a value, or none where its type is `void`. Its place is that of the first token of its text.
 #[cycle(typed)]
@@ -23,7 +23,7 @@ pub enum ExpressionNode {
     /// A null pointer.
     Null,
     /// A pointer to the function of that number.
-    FunctionName(u32),
+    FunctionName(usize),
     /// The value of a number or a pointer in memory.
     Load(Path),
     AddressOf(Path),
@@ -50,12 +50,12 @@ pub enum ExpressionNode {
     /// A whole record is assigned: to, from.
     CopyRecord(Path, Path),
     /// A call of the function of that number.
-    Call(u32, List<Expression>),
+    Call(usize, List<Expression>),
     /// A call through a pointer to a function.
     CallThrough(Boxed<Expression>, List<Expression>),
     Library(LibraryFunction, List<Expression>),
     /// An allocation of records: the record's number, how many where that is written, and whether all bytes are zero.
-    Allocate(u32, Option<Boxed<Expression>>, bool),
+    Allocate(usize, Option<Boxed<Expression>>, bool),
 }
 
 /// The way to an object, or to a part of one.
@@ -71,15 +71,15 @@ pub struct Path {
 #[derive(Drop)]
 pub enum PathNode {
     /// A local of the function, by its number; parameters come first.
-    Named(u32),
+    Named(usize),
     /// An object of the program, by its number.
-    Object(u32),
+    Object(usize),
     /// What a pointer points to.
     Deref(Boxed<Expression>),
     /// A subscript on a pointer.
     Index(Boxed<Expression>, Boxed<Expression>),
     /// A field of a record: the record's number, and the field's in it.
-    Member(Boxed<Path>, u32, u32),
+    Member(Boxed<Path>, usize, usize),
     /// A subscript on an array object or an array field.
     Element(Boxed<Path>, Boxed<Expression>),
 }

@@ -30,9 +30,9 @@ pub struct Initial {
 pub enum InitialValue {
     Number(IntKind, u32),
     /// A pointer of that type to a byte of an object.
-    Address(TypeId, u32, u32),
+    Address(TypeId, usize, u32),
     /// A pointer of that type to a function.
-    Function(TypeId, u32),
+    Function(TypeId, usize),
 }
 
 #[derive(Drop)]
@@ -109,7 +109,7 @@ pub struct Typed {
     pub functions: List<Function>,
     pub mentions: List<Mention>,
     /// The number of the function `main`.
-    pub main: u32,
+    pub main: usize,
     /// The number of nodes of all trees.
-    pub nodes: u64,
+    pub nodes: u128,
 }

@@ -106,7 +106,7 @@ pub fn choosing(s: &Ty, s_null: bool, t: &Ty, t_null: bool) -> Option<CommonType
 }
 
 /// Whether a type is a pointer to an object of complete type (C99 6.5.6).
-pub fn points_to_object(count: u32, t: &Ty) -> bool
+pub fn points_to_object(count: usize, t: &Ty) -> bool
     ensures { result ≡ points_to_object count (type_of t.now) }
 {
     match t {
@@ -117,7 +117,7 @@ pub fn points_to_object(count: u32, t: &Ty) -> bool
 
 /// The type to which the number is converted in the sum or difference of a pointer and a number (C99 6.5.6). The result has the
 /// pointer's type.
-pub fn moving(count: u32, pointer: &Ty, number: &Ty) -> Option<IntKind>
+pub fn moving(count: usize, pointer: &Ty, number: &Ty) -> Option<IntKind>
     ensures { option_map integer result ≡ moving count (type_of pointer.now) (type_of number.now) }
 {
     if points_to_object(count, pointer) {
@@ -128,7 +128,7 @@ pub fn moving(count: u32, pointer: &Ty, number: &Ty) -> Option<IntKind>
 }
 
 /// Whether there is a difference of two pointers (C99 6.5.6): they are of one type, to objects.
-pub fn differing(count: u32, s: &Ty, t: &Ty) -> bool
+pub fn differing(count: usize, s: &Ty, t: &Ty) -> bool
     ensures { result ≡ differing count (type_of s.now) (type_of t.now) }
 {
     points_to_object(count, s) && same(s, t)
@@ -143,7 +143,7 @@ pub fn is_move(op: BinaryOp) -> bool
 
 /// The type to which the right operand of a compound assignment is converted (C99 6.5.16.2): the common type, or for shifts and moves
 /// of a pointer its promoted one.
-pub fn updating(count: u32, op: BinaryOp, to: &Ty, value: &Ty) -> Option<IntKind>
+pub fn updating(count: usize, op: BinaryOp, to: &Ty, value: &Ty) -> Option<IntKind>
     ensures { option_map integer result ≡ updating count op (type_of to.now) (type_of value.now) }
 {
     match to {
@@ -165,7 +165,7 @@ pub fn updating(count: u32, op: BinaryOp, to: &Ty, value: &Ty) -> Option<IntKind
 }
 
 /// Whether an object of a type may be stepped by `++` and `--` (C99 6.5.2.4, 6.5.3.1).
-pub fn is_stepped(count: u32, t: &Ty) -> bool
+pub fn is_stepped(count: usize, t: &Ty) -> bool
     ensures { result ≡ is_stepped count (type_of t.now) }
 {
     is_integer(t) || points_to_object(count, t)

@@ -1,6 +1,5 @@
 -- A list of records with the layouts that are kept, and one more at its end.
-use Rattle.std.proofs.Common.{◌≡◌, ℕ, zero, suc, ◌-◌, ◌<◌, ◌≤◌, ◌^◌, ◌⊎◌, inl, inr, ⊎_elim, List, [], ◌∷◌, ◌++◌, length, IsTrue, refl, sym, ap, ◌∙◌, subst}
-use Rattle.std.proofs.Common.{arith, length-append}
+use Rattle.std.proofs.Common.{◌≡◌, ℕ, zero, suc, ◌<◌, ◌≤◌, ◌⊎◌, inl, inr, ⊎_elim, List, [], ◌∷◌, ◌++◌, length, IsTrue, refl, sym, ap, ◌∙◌, subst}
 use Rattle.std.specs.Prelude.{All, slice_get, Some, map}
 use Rattle.std.proofs.lemmas.List.{map-append, length-map}
 use Rattle.std.proofs.lemmas.List.Elements.{All-map, All-push}
@@ -45,10 +44,10 @@ members_are count r objects =
     All-map (λ t. IsTrue (is_object count t)) (λ (f : T.Field). f.ty) (map field_of r.fields)
     (All-map (λ (f : T.Field). IsTrue (is_object count f.ty)) field_of r.fields objects)
 
-pub laid-push : (records : List R.Record) (known : List Layout) (r : R.Record) (it : Layout) → AreLaid records known → length records < 2 ^ 32 - 1
+pub laid-push : (records : List R.Record) (known : List Layout) (r : R.Record) (it : Layout) → AreLaid records known
     → AreObjects (length records) r.fields → it ≡ layout known (field_types (record_of r))
     → (layout known (field_types (record_of r))).size ≤ greatest_size → AreLaid (records ++ r ∷ []) (known ++ it ∷ [])
-laid-push records known r it old room objects is small =
+laid-push records known r it old objects is small =
     let e : records_of (records ++ r ∷ []) ≡ records_of records ++ record_of r ∷ [] = map-append record_of records (r ∷ []) in
     let count : length (records_of records) ≡ length records = length-map records record_of in
     let as_said : it ≡ layout (layouts (records_of records)) (field_types (record_of r)) = is ∙ ap (λ k. layout k (field_types (record_of r))) old.laid in
@@ -59,5 +58,4 @@ laid-push records known r it old room objects is small =
           ∙ ap layouts (sym e);
       complete = rw e (complete-push (records_of records) (record_of r) old.complete (rw count (members_are (length records) r objects)));
       small = All-push (λ (l : Layout). l.size ≤ greatest_size) known it old.small (subst (λ (l : Layout). l.size ≤ greatest_size) (sym is) small);
-      few = omega (arith, length-append records (r ∷ []));
     }

@@ -1,5 +1,5 @@
 -- What private functions ask and answer, and what a list of records keeps beside it.
-use Rattle.std.specs.Prelude.{◌≡◌, ℕ, ◌<◌, ◌≤◌, ◌-◌, ◌^◌, min, List, length, All, IsTrue, Result, Ok, Err}
+use Rattle.std.specs.Prelude.{◌≡◌, ℕ, ◌<◌, ◌≤◌, ◌-◌, ◌^◌, min, List, All, IsTrue, Result, Ok, Err}
 use Rattle.c_types.specs.declared.layout.Layout.{Layout}
 use Rattle.c_types.specs.declared.fault.RecordFault.{RecordFault}
 use Rattle.c_types.specs.declared.fault.RecordFault.TheVariants.{TooBig, Memory}
@@ -30,4 +30,3 @@ pub record AreLaid (records : List Record) (known : List Layout) : Type 0 where
   pub laid : known ≡ layouts (records_of records)
   pub complete : AreComplete (records_of records)
   pub small : All (λ it. it.size ≤ greatest_size) known
-  pub few : length records < 2 ^ 32

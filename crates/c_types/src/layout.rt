@@ -23,11 +23,11 @@ pub struct Layout {
 
 /// The layout of the record with that number.
 #[tactic(auto, using(crate::proofs::Lists::layout_at_place))]
-pub fn layout_at(known: &[Layout], number: u32) -> &Layout
+pub fn layout_at(known: &[Layout], number: usize) -> &Layout
     requires { number < length known.now }
     ensures { result.now ≡ layout_at known.now number }
 {
-    &known[number as usize]
+    &known[number]
 }
 
 /// The alignment of an object type, by the layouts of the records.
@@ -54,16 +54,18 @@ pub fn size_in(known: &[Layout], t: &Ty) -> u32
         Ty::Void | Ty::Function(_, _) => 0,
         Ty::Int(kind) => width(*kind),
         Ty::Pointer(_) => 4,
-        Ty::Array(element, length) => size_in(known, element.get()) * *length,
+        Ty::Array(element, length) => {
+            (u64::from(size_in(known, element.get())) * *length) as u32
+        }
         Ty::Record(number) => layout_at(known, *number).size,
     }
 }
 
 /// A size, or `None` where it passes the greatest.
-fn size_if_small(size: u64) -> Option<u32>
+fn size_if_small(size: u128) -> Option<u32>
     ensures { result ≡ size_if_small size }
 {
-    if size <= GREATEST_SIZE {
+    if size <= u128::from(GREATEST_SIZE) {
         Some(size as u32)
     } else {
         None
@@ -72,12 +74,12 @@ fn size_if_small(size: u64) -> Option<u32>
 
 /// The size of an array, from that of its element.
 #[tactic(auto, using(crate::proofs::Checked::none_of_more))]
-fn array_size(element: Option<u32>, length: u32) -> Option<u32>
+fn array_size(element: Option<u32>, length: u64) -> Option<u32>
     requires { 0 < length }
     ensures { (size : ℕ) → element ≡ size_if_small size → result ≡ size_if_small (size * length) }
 {
     match element {
-        Some(size) => size_if_small(u64::from(size) * u64::from(length)),
+        Some(size) => size_if_small(u128::from(size) * u128::from(length)),
         None => None,
     }
 }
@@ -92,6 +94,6 @@ pub fn checked_size_in(known: &[Layout], t: &Ty) -> Option<u32>
         Ty::Int(kind) => Some(width(*kind)),
         Ty::Pointer(_) => Some(4),
         Ty::Array(element, length) => array_size(checked_size_in(known, element.get()), *length),
-        Ty::Record(number) => size_if_small(u64::from(layout_at(known, *number).size)),
+        Ty::Record(number) => size_if_small(u128::from(layout_at(known, *number).size)),
     }
 }

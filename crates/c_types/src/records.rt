@@ -1,6 +1,6 @@
 //! `Records`: a list of records, with their layouts.
 
-ghost use Rattle.std.specs.Prelude.{◌≡◌, ◌≤◌, ◌<◌, ◌-◌, ◌^◌, [], All, IsTrue, Some, length, slice_get};
+ghost use Rattle.std.specs.Prelude.{◌≡◌, ◌≤◌, ◌<◌, [], All, IsTrue, Some, length, slice_get};
 ghost use Rattle.c_types.specs.Layouts.{layouts, size_of, size_of_record};
 ghost use Rattle.c_types.specs.Limits.{AreComplete, AreSmall, greatest_size};
 ghost use Rattle.c_types.specs.Objects.{is_object};
@@ -56,18 +56,18 @@ impl Records {
     }
 
     /// How many records there are.
-    pub fn len(&self) -> u32
+    pub fn len(&self) -> usize
         ensures { result ≡ length self.now }
     {
-        self.records.len() as u32
+        self.records.len()
     }
 
     /// The record with that number, the first of which is 0.
-    pub fn get(&self, number: u32) -> &Record
+    pub fn get(&self, number: usize) -> &Record
         requires { number < length self.now }
         ensures { slice_get self.now number ≡ Some result.now }
     {
-        &self.records[number as usize]
+        &self.records[number]
     }
 
     /// All records, lent.
@@ -90,8 +90,7 @@ impl Records {
     /// Each field's type is an object type, of at most 16,777,216 bytes, over the records that are
     /// there; behind a pointer any number may stand. `TooBig` comes exactly where the size of the
     /// record passes 16,777,216 bytes. After a refusal the list is as it was, and the record is let go.
-    pub fn add(&mut self, r: Record) -> Result<u32, RecordFault>
-        requires room { length self.old < 2 ^ 32 - 1 }
+    pub fn add(&mut self, r: Record) -> Result<usize, RecordFault>
         requires objects { All (λ f. IsTrue (is_object (length self.old) (type_of f.ty))) r.fields }
         requires bounded { All (λ f. size_of (records_of self.old) (type_of f.ty) ≤ greatest_size) r.fields }
         ensures { AddGives (size_of_record (records_of self.old) (record_of r)) self.old r self.new result }
@@ -106,7 +105,7 @@ impl Records {
         if let Err(want) = reserve(&mut self.layouts, 1) {
             return Err(RecordFault::Memory(want));
         }
-        let number = self.records.len() as u32;
+        let number = self.records.len();
         self.records.push_reserved(r);
         self.layouts.push_reserved(layout);
         Ok(number)

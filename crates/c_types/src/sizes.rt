@@ -37,9 +37,9 @@ pub fn align_of(r: &Records, t: &Ty) -> u32
 
 /// Where a field of a record begins (C99 6.7.2.1), in bytes from the start of the record. Both have
 /// their numbers, which are counted from 0.
-pub fn offset_of(r: &Records, number: u32, field: u32) -> u32
+pub fn offset_of(r: &Records, number: usize, field: usize) -> u32
     requires { IsSomeAnd (slice_get r.now number) (λ it. field < length it.fields) }
     ensures { result ≡ offset_of (records_of r.now) number field }
 {
-    layout_at(r.layouts(), number).offsets.as_slice()[field as usize]
+    layout_at(r.layouts(), number).offsets.as_slice()[field]
 }

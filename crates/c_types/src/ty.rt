@@ -32,9 +32,9 @@ pub enum Ty {
     Int(IntKind),
     Pointer(Shared<Ty>),
     /// The element's type, and how many elements there are.
-    Array(Shared<Ty>, u32),
+    Array(Shared<Ty>, u64),
     /// The result's type, and the parameters' types in order.
     Function(Shared<Ty>, Shared<List<Ty>>),
     /// A record's number in the list of records of its program.
-    Record(u32),
+    Record(usize),
 }

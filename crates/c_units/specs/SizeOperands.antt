@@ -1,7 +1,6 @@
 -- Mentions of a file: those of size operands are left out, and those of initializers are told.
-use Rattle.std.specs.Prelude.{ℕ, Bool, not, ◌&&◌, List, [], ◌∷◌, ◌++◌, filter, flat_map, map}
+use Rattle.std.specs.Prelude.{ℕ, Bool, not, ◌&&◌, List, ◌++◌, filter, flat_map, map}
 use Rattle.std.specs.Option.{option_map}
-use Rattle.c_numbers.specs.KeyNumbers.Keys.{is_among}
 use Rattle.c_typed.specs.Mapped.{mapped_initializer, of_types}
 use Rattle.c_erasure.specs.InitialMentions.{told_by_initial}
 use Rattle.c_erasure.specs.Scopes.{AFunction, AMention, AnObject}
@@ -12,10 +11,6 @@ use Rattle.c_units.specs.RecognisedParts.{recognised_object}
 -- the places of size operands in all bodies
 abbrev pub operands_of : List AFunction → List ℕ
 operands_of functions = flat_map (λ g. flat_map operands_in_statement (if_any g.body)) functions
-
--- whether a number is a key
-abbrev pub holds : List (List ℕ) → ℕ → Bool
-holds keys n = is_among keys (n ∷ [])
 
 -- by which places are those of size operands
 abbrev pub is_operand : (ℕ → Bool) → AMention → Bool

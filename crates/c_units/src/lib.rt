@@ -3,7 +3,7 @@
 //! It stands on the crates of the stages: `c_walks`, `c_numbers` and `c_numbered`. It promises that the
 //! unit of an annotated file is the one that `unit_of` of `c_erasure` defines.
 //!
-//! `NoMemory` is also answered where a size passes 32 bits or a field is not there, and where a function has 2^32 locals, which a checked file rules out.
+//! `NoMemory` is also answered where `c_initial_values` answers it of what a checked file rules out.
 #![tactic(auto)]
 
 mod mentions;

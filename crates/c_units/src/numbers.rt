@@ -1,6 +1,6 @@
 //! Objects, functions and mentions with numbers of types.
 
-ghost use Rattle.std.specs.Prelude.{◌≡◌, ◌+◌, List as Sequence, IfOk, OnOk, flat_map, fold, length, map};
+ghost use Rattle.std.specs.Prelude.{◌≡◌, ◌<◌, ◌^◌, List as Sequence, IfOk, OnOk, flat_map, fold, length, map};
 ghost use Rattle.std.specs.Option.{option_map};
 ghost use Rattle.c_annotated.specs.FileViews.{function_of, local_of, mention_of};
 ghost use Rattle.c_annotated.specs.Views.{statement_of as noted_statement};
@@ -15,15 +15,13 @@ ghost use Rattle.c_types.specs.Types.{CType};
 ghost use Rattle.c_types.specs.Views.{type_of};
 ghost use Rattle.c_units.specs.CollectedTypes.{function_types};
 ghost use Rattle.c_units.specs.NumberedParts.{function_in, initial_in, local_in, locals_in, mention_in, object_in, taken_in};
-ghost use Rattle.c_units.specs.SizeOperands.{holds};
 ghost use Rattle.c_units.specs.ValuedObjects.{valued_of};
 
-use crate::places::contains;
 use crate::types::add_function;
 use crate::values::Valued;
 use c_initial_values::{Store, Value};
 use c_numbered::{number_of, optional_statement};
-use c_numbers::{KeyTable, TypeTable};
+use c_numbers::{NumberSet, TypeTable};
 use c_typed::{Function, Initial, InitialValue, Local, Mention, Object, Statement, is_scalar};
 use c_types::{IntKind, Ty};
 use lay_base::{List, NoMemory, Place, add};
@@ -126,37 +124,17 @@ pub fn numbered_objects(
     Ok(done)
 }
 
-/// The number after one.
-fn next(number: u32) -> Result<u32, NoMemory>
-    ensures { IfOk result (λ n. n ≡ number + 1) }
-{
-    match number.checked_add(1) {
-        Some(n) => Ok(n),
-        None => Err(NoMemory::unearned()),
-    }
-}
-
-/// How many locals there are.
-fn count(all: &[c_annotated::Local]) -> Result<u32, NoMemory>
-    ensures { IfOk result (λ n. n ≡ length all.now) }
-{
-    match u32::try_from(all.len()) {
-        Ok(n) => Ok(n),
-        Err(_) => Err(NoMemory::unearned()),
-    }
-}
-
 fn local(
     alloc: Global,
     types: &TypeTable,
-    taken: &KeyTable,
-    n: u32,
+    taken: &NumberSet,
+    n: usize,
     l: c_annotated::Local,
 ) -> Result<Local, NoMemory>
-    ensures { IfOk result (λ r. r ≡ local_in (map type_of types.now) (holds taken.now) n (local_of l)) }
+    ensures { IfOk result (λ r. r ≡ local_in (map type_of types.now) (is_among taken.now) n (local_of l)) }
 {
     let c_annotated::Local { name, ty } = l;
-    let block = !is_scalar(&ty) || contains(taken, n);
+    let block = !is_scalar(&ty) || taken.contains(n);
     let ty = number_of(alloc, types, ty)?;
     Ok(Local { name, ty, block })
 }
@@ -165,18 +143,19 @@ fn local(
 fn locals(
     alloc: Global,
     types: &TypeTable,
-    taken: &KeyTable,
-    first: u32,
+    taken: &NumberSet,
+    first: usize,
     all: List<c_annotated::Local>,
 ) -> Result<List<Local>, NoMemory>
-    ensures { IfOk result (λ r. r ≡ locals_in (map type_of types.now) (holds taken.now) first (map local_of all)) }
+    requires { first < 2 ^ 63 }
+    ensures { IfOk result (λ r. r ≡ locals_in (map type_of types.now) (is_among taken.now) first (map local_of all)) }
 {
     let mut done = List::new(alloc);
     let mut n = first;
     for l in all.into_vec() {
         let l = local(alloc, types, taken, n, l)?;
         add(&mut done, l)?;
-        n = next(n)?;
+        n += 1;
     }
     Ok(done)
 }
@@ -185,14 +164,14 @@ fn locals(
 fn parameters_and_locals(
     alloc: Global,
     types: &TypeTable,
-    taken: &KeyTable,
+    taken: &NumberSet,
     parameters: List<c_annotated::Local>,
     others: List<c_annotated::Local>,
 ) -> Result<(List<Local>, List<Local>), NoMemory>
-    ensures parameters { IfOk result (λ r. r.0 ≡ locals_in (map type_of types.now) (holds taken.now) 0 (map local_of parameters)) }
-    ensures locals { IfOk result (λ r. r.1 ≡ locals_in (map type_of types.now) (holds taken.now) (length parameters) (map local_of others)) }
+    ensures parameters { IfOk result (λ r. r.0 ≡ locals_in (map type_of types.now) (is_among taken.now) 0 (map local_of parameters)) }
+    ensures locals { IfOk result (λ r. r.1 ≡ locals_in (map type_of types.now) (is_among taken.now) (length parameters) (map local_of others)) }
 {
-    let first = count(parameters.as_slice())?;
+    let first = parameters.as_slice().len();
     let parameters = locals(alloc, types, taken, 0, parameters)?;
     let others = locals(alloc, types, taken, first, others)?;
     Ok((parameters, others))
@@ -204,7 +183,7 @@ fn type_and_body(
     types: &TypeTable,
     ty: &Ty,
     body: &Option<c_annotated::Statement>,
-) -> Result<(u32, Option<Statement>), NoMemory>
+) -> Result<(usize, Option<Statement>), NoMemory>
     ensures ty { IfOk result (λ r. r.0 ≡ number_in (map type_of types.now) (type_of ty.now)) }
     ensures body { IfOk result (λ r. option_map statement_of r.1
         ≡ option_map (mapped_statement (numbered types.now)) (option_map noted_statement body.now)) }
@@ -218,10 +197,10 @@ fn type_and_body(
 fn function(
     alloc: Global,
     types: &TypeTable,
-    taken: &KeyTable,
+    taken: &NumberSet,
     f: c_annotated::Function,
 ) -> Result<Function, NoMemory>
-    ensures { holds taken.now ≡ is_among (taken_in (function_of f)) → IfOk result (λ r. data_of r ≡ function_in (map type_of types.now) (function_of f)) }
+    ensures { is_among taken.now ≡ is_among (taken_in (function_of f)) → IfOk result (λ r. data_of r ≡ function_in (map type_of types.now) (function_of f)) }
 {
     let c_annotated::Function {
         name,

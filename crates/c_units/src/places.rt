@@ -1,6 +1,6 @@
-//! Places of size operands in bodies, what stands at the nodes of one, and tables of numbers.
+//! Places of size operands in bodies, what stands at the nodes of one, and sets of numbers.
 
-ghost use Rattle.std.specs.Prelude.{◌≡◌, ◌++◌, ◌∷◌, [], IfOk, OnOk, flat_map, fold, map};
+ghost use Rattle.std.specs.Prelude.{◌≡◌, ◌++◌, IfOk, OnOk, flat_map, map};
 ghost use Rattle.std.specs.Option.{option_map};
 ghost use Rattle.c_annotated.specs.FileViews.{function_of};
 ghost use Rattle.c_annotated.specs.Views.{statement_of};
@@ -8,40 +8,25 @@ ghost use Rattle.c_erasure.specs.SizeOperands.{operands_in_statement};
 ghost use Rattle.c_erasure.specs.Units.{if_any, is_among};
 ghost use Rattle.c_typed.specs.Addressed.{addressed_by_statement};
 ghost use Rattle.c_typed.specs.Walk.{types_in_statement};
-ghost use Rattle.c_units.specs.SizeOperands.{holds, operands_of};
+ghost use Rattle.c_units.specs.SizeOperands.{operands_of};
 ghost use Rattle.c_walks.specs.NodeTypes.{taken_in, types_found};
-ghost use Rattle.c_numbers.specs.KeyNumbers.Keys.{with_key};
 
 use c_annotated::{Function, Statement};
-use c_numbers::KeyTable;
+use c_numbers::NumberSet;
 use c_recognised::operands_in_statement;
 use c_walks::{Nodes, walk_statement};
-use lay_base::{List, NoMemory, copied};
+use lay_base::{List, NoMemory};
 use std::alloc::Global;
 
-fn key(alloc: Global, number: u32) -> Result<Vec<u32>, NoMemory>
-    ensures { IfOk result (λ key. key.items ≡ number ∷ []) }
+/// The set of some locals.
+pub fn set_of(alloc: Global, numbers: &[usize]) -> Result<NumberSet, NoMemory>
+    ensures { IfOk result (λ set. is_among set ≡ is_among numbers.now) }
 {
-    copied(alloc, &[number])
-}
-
-/// A table of numbers.
-pub fn table_of(alloc: Global, numbers: &[u32]) -> Result<KeyTable, NoMemory>
-    ensures { IfOk result (λ keys. holds keys ≡ is_among numbers.now) }
-{
-    let mut keys = KeyTable::new(alloc);
+    let mut set = NumberSet::new(alloc);
     for number in numbers {
-        keys.add(key(alloc, *number)?)?;
+        set.add(*number)?;
     }
-    Ok(keys)
-}
-
-/// Whether a number is in a table.
-#[tactic(auto, using(crate::proofs::Tables::shown))]
-pub fn contains(keys: &KeyTable, number: u32) -> bool
-    ensures { result ≡ holds keys.now number }
-{
-    keys.number(&[number]) < keys.len()
+    Ok(set)
 }
 
 /// What stands at the nodes of a body.
@@ -76,9 +61,14 @@ fn operands_of(alloc: Global, functions: &[Function]) -> Result<List<u32>, NoMem
 }
 
 /// The places of the `sizeof`s in bodies that are size operands of allocations.
-pub fn size_operands(alloc: Global, functions: &[Function]) -> Result<KeyTable, NoMemory>
-    ensures { IfOk result (λ keys. holds keys ≡ is_among (operands_of (map function_of functions.now))) }
+pub fn size_operands(alloc: Global, functions: &[Function]) -> Result<NumberSet, NoMemory>
+    ensures { IfOk result (λ set. is_among set ≡ is_among (operands_of (map function_of functions.now))) }
 {
     let places = operands_of(alloc, functions)?;
-    table_of(alloc, places.as_slice())
+    let places = places.as_slice();
+    let mut set = NumberSet::new(alloc);
+    for place in places {
+        set.add(*place as usize)?;
+    }
+    Ok(set)
 }

@@ -1,6 +1,6 @@
 //! The types of a file, each once, in the order in which they stand first: in objects, functions and mentions.
 
-ghost use Rattle.std.specs.Prelude.{◌≡◌, ◌++◌, ◌∷◌, [], IfOk, OnOk, flat_map, fold, map};
+ghost use Rattle.std.specs.Prelude.{◌≡◌, ◌++◌, IfOk, OnOk, flat_map, fold, map};
 ghost use Rattle.c_annotated.specs.FileViews.{function_of, local_of, mention_of};
 ghost use Rattle.c_erasure.specs.Units.{is_among, type_if_pointer};
 ghost use Rattle.c_initial_values.specs.Values.{store_of, stores_in};
@@ -8,15 +8,14 @@ ghost use Rattle.c_numbers.specs.TypeNumbers.Adding.{with_type};
 ghost use Rattle.c_types.specs.Views.{type_of};
 ghost use Rattle.c_units.specs.CollectedTypes.{function_types, object_types};
 ghost use Rattle.c_units.specs.NumberedParts.{taken_in};
-ghost use Rattle.c_units.specs.SizeOperands.{holds};
 ghost use Rattle.c_units.specs.ValuedObjects.{valued_of};
 ghost use Rattle.c_walks.specs.NodeTypes.{taken_in as walked, types_found};
 
-use crate::places::{add_body, table_of};
+use crate::places::{add_body, set_of};
 use crate::values::Valued;
 use c_annotated::{Function, Local, Mention};
 use c_initial_values::Store;
-use c_numbers::{KeyTable, TypeTable};
+use c_numbers::{NumberSet, TypeTable};
 use c_typed::is_pointer;
 use c_types::Ty;
 use c_walks::Nodes;
@@ -107,14 +106,14 @@ pub fn add_function(
     alloc: Global,
     types: &mut TypeTable,
     f: &Function,
-) -> Result<KeyTable, NoMemory>
+) -> Result<NumberSet, NoMemory>
     ensures types { OnOk result (map type_of types.new ≡ fold with_type (map type_of types.old) (function_types (function_of f.now))) }
-    ensures taken { IfOk result (λ keys. holds keys ≡ is_among (taken_in (function_of f.now))) }
+    ensures taken { IfOk result (λ set. is_among set ≡ is_among (taken_in (function_of f.now))) }
 {
     let mut found = Nodes::new(alloc);
     add_function_types(&mut found, f)?;
     add_found(alloc, types, found.types.as_slice())?;
-    table_of(alloc, found.taken.as_slice())
+    set_of(alloc, found.taken.as_slice())
 }
 
 /// Adds the types of objects to a table.

@@ -105,11 +105,11 @@ fn numbered(
 }
 
 /// The tags of the records that are not complete.
-fn incomplete(tags: Tags, complete: u32) -> Result<List<Name>, NoMemory>
+fn incomplete(tags: Tags, complete: usize) -> Result<List<Name>, NoMemory>
     ensures { IfOk result (λ names. names ≡ drop complete tags.numbered) }
 {
     let mut names = tags.into_structures();
-    let at = (complete as usize).min(names.len());
+    let at = complete.min(names.len());
     let rest = split_off(&mut names, at)?;
     Ok(List::of(rest))
 }

@@ -36,7 +36,7 @@ fn object_with(alloc: Global, t: &Ty) -> Result<Object, NoMemory>
         name: Name::of(Vec::new(alloc)),
         place: Place { file: 0, at: 0 },
         first: 0,
-        ty: copy(t)?,
+        ty: copy(alloc, t)?,
         is_linked: false,
         literal: None,
         initial: None,

@@ -12,7 +12,7 @@ use std::alloc::Global;
 #[derive(Drop)]
 pub struct Nodes<'a> {
     pub types: Vec<&'a Ty>,
-    pub taken: List<u32>,
+    pub taken: List<usize>,
 }
 
 impl<'a> Nodes<'a> {
@@ -36,7 +36,7 @@ impl<'a> Nodes<'a> {
     }
 
     #[tactic(auto, unfolding(crate::specs::NodeTypes::types_found))]
-    pub fn add_taken(&mut self, local: u32) -> Result<(), NoMemory>
+    pub fn add_taken(&mut self, local: usize) -> Result<(), NoMemory>
         ensures types { OnOk result (types_found self.new ≡ types_found self.old) }
         ensures taken { OnOk result (taken_in self.new ≡ taken_in self.old ++ local ∷ []) }
     {

@@ -10,7 +10,7 @@ use Rattle.c_typed.specs.declared.operators.PointerOp.{PointerOp}
 use Rattle.c_typed.specs.Trees as Trees
 use Rattle.c_typed.specs.Conversions.{is_pointer}
 use Rattle.c_typed.specs.Constants.{ty, constant_of}
-use Rattle.c_typed.specs.InitialValues.{Address, element_size, number_in, within, moved, subscripted, inside, or_negated, path_type, address_of_path}
+use Rattle.c_typed.specs.InitialValues.{Address, element_size, number_in, end_of, within, moved, subscripted, inside, or_negated, path_type, address_of_path}
 use Rattle.c_typed.specs.InitialValues.{address_of_step}
 use Rattle.c_typed.specs.InitialValues.{address_in, address_in_node}
 use Rattle.c_typed.specs.Subscripts.{is_subscript}
@@ -49,9 +49,10 @@ module _ (d : Declared) where
   within_is : (n : ℕ) (z : ℤ) → IsThere n → AreWithin (within d n z)
   within_is n (negsuc k) there a h = cc
   within_is n (pos k) there a h =
-      let c = if_some (nat_le k (size_of d.records (get_or d.objects n void))) (Some (record { object = n; offset = k })) a h in
+      let c = if_some (nat_le k (end_of d n)) (Some (record { object = n; offset = k })) a h in
       let e = some_is (record { object = n; offset = k }) a c.1 in
-      let l = leb-true k (size_of d.records (get_or d.objects n void)) c.0 in
+      let below : k ≤ end_of d n = leb-true k (end_of d n) c.0 in
+      let l : k ≤ size_of d.records (get_or d.objects n void) = omega (arith, below) in
       let g = get_or_from_slice_get d.objects n there.0 void there.1 in
       subst IsWithin e (there.0, there.1, subst (λ t. k ≤ size_of d.records t) g l)
 

@@ -37,6 +37,7 @@ pub mod UnitObjects
 pub mod WholeUnits
 pub mod JoinedObjects
 pub mod SmallTypes
+pub mod SmallArrays
 pub mod PartsWithin
 pub mod Limits
 pub mod StatementLoops

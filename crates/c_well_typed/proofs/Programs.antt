@@ -1,5 +1,5 @@
 -- A program of files has typed functions and objects, since its units have.
-use Rattle.std.proofs.Common.{◌≡◌, ℕ, ◌+◌, sym, subst, List, [], ◌∷◌, inl, inr}
+use Rattle.std.proofs.Common.{◌≡◌, ℕ, ◌+◌, ◌≤◌, sym, subst, List, [], ◌∷◌, length, inl, inr}
 use Rattle.std.specs.Prelude.{◌⊎◌, All}
 use Rattle.std.proofs.lemmas.List.Elements.{recursion_from_All, All-from_recursion}
 use Rattle.std.specs.List.{AllByRecursion}
@@ -12,15 +12,17 @@ use Rattle.c_ast.specs.Trees
 use Rattle.c_ast.specs.TreesOfFiles.{IsTreeOf}
 use Rattle.c_erasure.specs.Erasing.{ErasesTo}
 use Rattle.c_joining.specs.Joining.{joined, objects}
+use Rattle.c_checking_units.specs.TypeLimits.Limits.{HasSmallArrays, UnitsHaveSmallArrays}
 use Rattle.c_link.specs.Programs.{AreUnitsOf, IsUnitOfFile}
 use Rattle.c_link.proofs.JoinedRecords.{IsAmong}
 use Rattle.c_well_typed.specs.Laws.{UnitsHaveTypedFunctions, UnitsAreWellTyped, ProgramHasTypedFunctions, ProgramHasTypedObjects, ProgramIsWellTyped}
-use Rattle.c_well_typed.specs.Laws.{UnitsHaveWholeElements}
+use Rattle.c_well_typed.specs.Laws.{ProgramHasSmallArrays, UnitsHaveWholeElements}
 use Rattle.c_well_typed.specs.WellTyped.{of_unit, of_program, AreInitials, HasObjectType, IsTypedObject, IsSmallType, HaveTypedFunctions}
 use Rattle.c_well_typed.specs.WellTyped.{HaveWholeElements, IsWellTypedUnit, HasMain}
 use Rattle.c_well_typed.specs.Within.{IsTextObject, ProgramHasTexts}
 use Rattle.c_well_typed.proofs.JoinedFunctions.{program_typed, main_again}
 use Rattle.c_well_typed.proofs.JoinedObjects.{objects_hold_again, texts_again}
+use Rattle.c_well_typed.proofs.SmallArrays.{arrays_again}
 use Rattle.c_well_typed.proofs.SmallTypes.{small_again}
 use Rattle.c_well_typed.proofs.WholeUnits.{all_both}
 
@@ -90,6 +92,34 @@ program_is_well_typed functions_law law elements_law p complete small files h =
       lists = record { functions = own.0; small_types = types; objects = program_has_typed_objects law p complete small files h };
       main = own.1;
     }
+
+-- ---- arrays inside of types
+
+abbrev IsShort : File → Type 0
+IsShort file = length file.bytes ≤ 4194304
+
+small_arrays_in : UnitsHaveSmallArrays → (number : ℕ) (files : List File) (units : List UnitData) → AllByRecursion IsShort files
+    → AreUnitsOf number files units → (u : UnitData) → IsAmong u units → All (HasSmallArrays u.records) u.types
+small_arrays_in law number [] units l h u i = absurd (subst (IsAmong u) h i)
+small_arrays_in law number (file ∷ more) units l h u i =
+    by_place (subst (IsAmong u) h.2 i) (small_arrays_in law (number + 1) more h.1 l.1 h.4 u)
+  where
+    own : All (HasSmallArrays h.0.records) h.0.types
+    own = let k : IsUnitOfFile number file h.0 = h.3 in law number file.name file.bytes k.items h.0 l.0 k.tree k.erases
+
+    by_place : (u ≡ h.0) ⊎ IsAmong u h.1 → (IsAmong u h.1 → All (HasSmallArrays u.records) u.types) → All (HasSmallArrays u.records) u.types
+    by_place (inl e) later = subst (λ (u : UnitData). All (HasSmallArrays u.records) u.types) (sym e) own
+    by_place (inr j) later = later j
+
+pub program_has_small_arrays : UnitsHaveTypedFunctions → UnitsHaveSmallArrays → (p : ProgramData) → AreComplete p.records → ProgramHasSmallArrays p
+program_has_small_arrays functions_law law p complete files l h =
+    let e = h.program.joined_units in
+    let whole = subst (λ (p : ProgramData). AreComplete p.records) e complete in
+    let each = each_unit (λ u. HaveTypedFunctions (of_unit u))
+    (λ number file u own. (functions_law number file.name file.bytes own.items u own.tree own.erases).0) 0 files h.units h.of_files in
+    let smalls = small_arrays_in law 0 files h.units (recursion_from_All IsShort files l) h.of_files in
+    subst (λ (p : ProgramData). All (HasSmallArrays p.records) p.types) (sym e)
+    (arrays_again h.units h.program.agree whole (λ u i. let t = each u i in t.records) smalls)
 
 -- ---- the objects of literals
 

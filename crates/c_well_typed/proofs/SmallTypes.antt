@@ -14,7 +14,7 @@ use Rattle.c_types.specs.Layouts.{size_of, layouts}
 use Rattle.c_types.specs.Limits.{AreComplete, AreSmall, greatest_size}
 use Rattle.c_types.specs.Types.{CType, void, integer, pointer, array, function, structure, Record}
 use Rattle.c_typed.specs.Programs.{UnitData}
-use Rattle.c_joining.specs.Joining.{all_tags, structure_in, type_in, types_in, records}
+use Rattle.c_joining.specs.Joining.{all_tags, structure_in, type_in, types_in, types, records}
 use Rattle.c_link.specs.Gaps.{Agree}
 use Rattle.c_link.proofs.JoinedRecords as Joined
 use Rattle.c_link.proofs.JoinedRecords.{stand_among}
@@ -24,7 +24,7 @@ use Rattle.c_well_typed.proofs.JoinedFunctions.{T, P, R}
 use Rattle.c_well_typed.proofs.LookedUp.{flat_among}
 use Rattle.c_well_typed.proofs.Numbers.{IsAmong, all_among, of_all}
 
-width_small : (kind : IntKind) → width kind ≤ greatest_size
+pub width_small : (kind : IntKind) → width kind ≤ greatest_size
 width_small Char = omega arith
 width_small SChar = omega arith
 width_small UChar = omega arith
@@ -36,7 +36,7 @@ width_small Long = omega arith
 width_small ULong = omega arith
 
 -- a structure within the limit, and one that no file completes, which has no size
-structure_small : (all : List Record) → AreSmall all → (r : ℕ) → size_of all (structure r) ≤ greatest_size
+pub structure_small : (all : List Record) → AreSmall all → (r : ℕ) → size_of all (structure r) ≤ greatest_size
 structure_small all small r = by_test (nat_lt r (length all)) refl
   where
     past : length all ≤ r → size_of all (structure r) ≡ 0
@@ -47,6 +47,26 @@ structure_small all small r = by_test (nat_lt r (length all)) refl
     by_test : (b : Bool) → nat_lt r (length all) ≡ b → size_of all (structure r) ≤ greatest_size
     by_test true e = small r (grind (arith, nat_tests))
     by_test false e = let z = past (grind (arith, nat_tests)) in omega (arith, z)
+
+turned_back : {A : Type 0} (x : A) (xs : List A) → IsAmong x xs → Joined.IsAmong x xs
+turned_back x [] i = i
+turned_back x (y ∷ xs) (inl e) = inl e
+turned_back x (y ∷ xs) (inr i) = inr (turned_back x xs i)
+
+among_mapped : {A B : Type 0} (P : B → Type 0) (v : A → B) (xs : List A) → AllByRecursion (λ x. P (v x)) xs → (y : B) → Joined.IsAmong y (map v xs) → P y
+among_mapped P v [] h y i = absurd i
+among_mapped P v (x ∷ xs) h y (inl e) = subst P (sym e) h.0
+among_mapped P v (x ∷ xs) h y (inr i) = among_mapped P v xs h.1 y i
+
+-- what holds of the types of each unit, over the records of the program, holds of those of the program
+pub types_again : (units : List UnitData) (P : CType → Type 0)
+    → ((u : UnitData) → Joined.IsAmong u units → AllByRecursion (λ t. P (type_in (all_tags units) u t)) u.types) → All P (types units)
+types_again units P each =
+    All-from_recursion P (types units)
+    (all_among P (types units) (λ t i.
+    let all = flat_map (types_in (all_tags units)) units in
+    let z = flat_among (types_in (all_tags units)) units t (turned_back t all (of_all [] all t i)) in
+    among_mapped P (type_in (all_tags units) z.0) z.0.types (each z.0 z.1) t z.2))
 
 module _ (units : List UnitData) (agree : Agree units) (complete : AreComplete (records units))
     (each : (u : UnitData) → Joined.IsAmong u units → HaveTypedFunctions (of_unit u)) (small : AreSmall (records units))
@@ -63,23 +83,12 @@ module _ (units : List UnitData) (agree : Agree units) (complete : AreComplete (
       let same = (lies_alike (structure_in (all_tags units) u) u.records (records units) (each u h).records complete (stand_among units agree.tags u h) t w).alike.sizes in
       subst (λ m. m * n ≤ greatest_size) (sym same) s
 
-  small_of : (u : UnitData) → Joined.IsAmong u units → (all : List CType) → AllByRecursion (IsSmallType (of_unit u)) all
-      → AllByRecursion (HasWholeElements u) all → (t : CType) → Joined.IsAmong t (map (type_in (all_tags units) u) all)
-      → IsSmallType (P units agree complete each) t
-  small_of u h [] s w t i = absurd i
-  small_of u h (x ∷ all) s w t (inl e) = subst (IsSmallType (P units agree complete each)) (sym e) (again u h x s.0 w.0)
-  small_of u h (x ∷ all) s w t (inr i) = small_of u h all s.1 w.1 t i
-
-  turned_back : {A : Type 0} (x : A) (xs : List A) → IsAmong x xs → Joined.IsAmong x xs
-  turned_back x [] i = i
-  turned_back x (y ∷ xs) (inl e) = inl e
-  turned_back x (y ∷ xs) (inr i) = inr (turned_back x xs i)
+  each_again : (u : UnitData) → Joined.IsAmong u units → (all : List CType) → AllByRecursion (IsSmallType (of_unit u)) all
+      → AllByRecursion (HasWholeElements u) all → AllByRecursion (λ t. IsSmallType (P units agree complete each) (type_in (all_tags units) u t)) all
+  each_again u h [] s w = tt
+  each_again u h (t ∷ all) s w = (again u h t s.0 w.0, each_again u h all s.1 w.1)
 
   pub small_again : All (IsSmallType (P units agree complete each)) (T units agree complete each)
   small_again =
-      All-from_recursion (IsSmallType (P units agree complete each)) (T units agree complete each)
-      (all_among (IsSmallType (P units agree complete each)) (T units agree complete each) (λ t i.
-      let all = flat_map (types_in (all_tags units)) units in
-      let z = flat_among (types_in (all_tags units)) units t (turned_back t all (of_all [] all t i)) in
-      small_of z.0 z.1 z.0.types (recursion_from_All (IsSmallType (of_unit z.0)) z.0.types (smalls z.0 z.1))
-      (recursion_from_All (HasWholeElements z.0) z.0.types (wholes z.0 z.1)) t z.2))
+      types_again units (IsSmallType (P units agree complete each))
+      (λ u h. each_again u h u.types (recursion_from_All (IsSmallType (of_unit u)) u.types (smalls u h)) (recursion_from_All (HasWholeElements u) u.types (wholes u h)))

@@ -1,9 +1,10 @@
 -- What is well typed.
-use Rattle.std.specs.Prelude.{◌≡◌, ℕ, true, List, ◌++◌, length, All, Some}
+use Rattle.std.specs.Prelude.{◌≡◌, ℕ, ◌≤◌, true, List, ◌++◌, length, All, Some}
 use Rattle.lay_base.specs.declared.place.File.{File}
 use Rattle.c_ast.specs.Trees
 use Rattle.c_ast.specs.TreesOfFiles.{IsTreeOf}
 use Rattle.c_erasure.specs.Erasing.{ErasesTo}
+use Rattle.c_checking_units.specs.TypeLimits.Limits.{HasSmallArrays}
 use Rattle.c_link.specs.Programs.{IsProgramOf}
 use Rattle.c_types.specs.Objects.{is_object}
 use Rattle.c_typed.specs.Programs.{FunctionData, UnitData, ProgramData}
@@ -37,6 +38,11 @@ ProgramHasTypedObjects p = (files : List File) → IsProgramOf files p → All (
 -- that program is well typed
 abbrev pub ProgramIsWellTyped : ProgramData → Type 0
 ProgramIsWellTyped p = (files : List File) → IsProgramOf files p → IsWellTyped p
+
+-- the arrays inside of its types are small, where each file has at most 4 MiB
+abbrev pub ProgramHasSmallArrays : ProgramData → Type 0
+ProgramHasSmallArrays p = (files : List File) → All (λ (f : File). length f.bytes ≤ 4194304) files → IsProgramOf files p
+    → All (HasSmallArrays p.records) p.types
 
 -- the parameters and locals of a function with a body have complete types
 abbrev pub LocalsAreComplete : Type 0

@@ -3,12 +3,13 @@
 ghost use Rattle.c_typed.specs.Programs.{program_data};
 ghost use Rattle.c_well_typed.specs.Within.{InitialsLieWithin, ProgramHasTexts, ProgramsAreWithinLimits, ProgramsHaveFewFunctions};
 ghost use Rattle.c_well_typed.specs.Within.{ProgramsHaveFewLoops, TextsHoldNumbers};
-ghost use Rattle.c_well_typed.specs.Laws.{LocalsAreComplete, ProgramHasTypedFunctions, ProgramHasTypedObjects, ProgramIsWellTyped, UnitsAreWellTyped};
+ghost use Rattle.c_well_typed.specs.Laws.{LocalsAreComplete, ProgramHasSmallArrays, ProgramHasTypedFunctions, ProgramHasTypedObjects, ProgramIsWellTyped, UnitsAreWellTyped};
 ghost use Rattle.c_well_typed.specs.Laws.{UnitsHaveTypedFunctions, UnitsHaveWholeElements};
 ghost use Rattle.c_well_typed.specs.CountableUnits.{UnitsAreCountable};
 ghost use Rattle.c_well_typed.specs.Moves.{MovesKeepTyping};
 
 use c_checking_laws::texts_are_in_order;
+use c_checking_units::arrays_are_small;
 use c_lexer::tokens_have_places;
 use c_typed::Typed;
 use c_types::records_are_complete;
@@ -64,6 +65,16 @@ pub fn programs_are_well_typed(p: &Typed)
     units_have_typed_functions();
     units_are_well_typed();
     units_have_whole_elements();
+}
+
+/// In each type of the program of some files of at most 4 MiB the arrays are within the limit of sizes and of complete elements, those behind pointers too
+/// (6.7.5.2): no other file makes one longer.
+pub fn programs_have_small_arrays(p: &Typed)
+    ensures { ProgramHasSmallArrays (program_data p.now) }
+{
+    records_are_complete(&p.records);
+    units_have_typed_functions();
+    arrays_are_small();
 }
 
 /// Each parameter and local of a typed function with a body has a complete type (6.7, 6.9.1).

@@ -3,8 +3,8 @@
 //!
 //! It stands on `c_typed`, which has the rules, on `c_erasure`, on `c_link`, which says what gaps are, and on the laws of the checker. It has laws alone.
 //!
-//! Not said: that what a pointer of the program points to is small, which the interpreter tests. It is so only where no string literal is longer than the
-//! greatest type, which `IsProgramOf` does not ask of a file: `sizeof &"..."` speaks of a pointer to an array of the literal's length.
+//! That what a pointer of the program points to is small is said of files of at most 4 MiB alone, so that no string literal is longer than the greatest type:
+//! `sizeof &"..."` speaks of a pointer to an array of the literal's length.
 #![tactic(auto)]
 
 mod gap_places;
@@ -15,8 +15,8 @@ pub use gap_places::gaps_have_places;
 pub use laws::{
     initials_lie_within, locals_are_complete, moves_keep_typing, programs_are_well_typed,
     programs_are_within_limits, programs_have_few_functions, programs_have_few_loops,
-    programs_have_texts, programs_have_typed_functions, programs_have_typed_objects,
-    texts_hold_numbers, units_are_countable, units_are_well_typed, units_have_typed_functions,
-    units_have_whole_elements,
+    programs_have_small_arrays, programs_have_texts, programs_have_typed_functions,
+    programs_have_typed_objects, texts_hold_numbers, units_are_countable, units_are_well_typed,
+    units_have_typed_functions, units_have_whole_elements,
 };
 pub use program_weights::{joined_are_bounded, programs_are_bounded, units_are_bounded};

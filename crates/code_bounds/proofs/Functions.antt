@@ -1,13 +1,13 @@
 -- The laws, function by function.
 use Rattle.std.proofs.Common.{◌≡◌, ◌≢◌, ℕ, zero, suc, ◌+◌, ◌*◌, ◌<◌, ◌≤◌, Bool, true, false, List, [], ◌∷◌, ◌++◌, map, length, All, Option, Some, None, refl}
-use Rattle.std.proofs.Common.{sym, ap, subst, arith, slice_get}
+use Rattle.std.proofs.Common.{sym, ap, subst, arith, slice_get, get_or}
 use Rattle.c_typed.specs.declared.program.Local.{Local}
 use Rattle.c_typed.specs.Programs.{FunctionData, ProgramData}
 use Rattle.c_typed.specs.Trees.{Statement}
 use Rattle.c_typed.specs.TypedStatements.{all_declared}
 use Rattle.c_meaning.specs.Program.{all_locals}
 use Rattle.c_meaning.specs.Run.{numbers_from}
-use Rattle.tac_ir.specs.Code.{RoutineData}
+use Rattle.tac_ir.specs.Code.{RoutineData, left}
 use Rattle.tac_ir.specs.declared.step.Step.{Step}
 use Rattle.tac_ir.specs.declared.step.Step.TheVariants as S
 use Rattle.tac_ir.specs.declared.step.Target.{Target}
@@ -19,19 +19,20 @@ use Rattle.lower_tac.specs.Statements.{routines_from, lowered}
 use Rattle.c_well_typed.specs.ProgramWeights.Counted.{Kind, statement, code, frame, definition}
 use Rattle.c_well_typed.specs.ProgramWeights.Counted as Kinds
 use Rattle.c_well_typed.specs.ProgramWeights.Weights.{weight_of_parameters, weight_of_body, weight_of_function, weight_of_functions}
-use Rattle.tac_ir.specs.Jumps.{IsInside, target_of, LeadsInsideIfAny, JumpsWithin}
+use Rattle.tac_ir.specs.Jumps.{target_of, LeadsInsideIfAny, JumpsWithin}
 use Rattle.tac_ir.specs.Kinds.{KeepsKinds, KindsWithin}
-use Rattle.code_bounds.specs.LoweredLaws.{HasFewLabels, HasOwnSize, sizes_of_locals, SizesStand, BytesAreLeft, JumpsStand, KindsStand, LabelsAreFew, CodeIsPaid}
+use Rattle.code_bounds.specs.LoweredLaws.{AllJumpsLeadOn, HasFewLabels, HasOwnSize, sizes_of_locals, SizesStand, BytesAreLeft, JumpsStand, KindsStand, LabelsAreFew, CodeIsPaid}
 use Rattle.code_bounds.specs.LoweredLaws.{StepsAreFew, BytesAreWithin, ProgramsAreWithin}
 use Rattle.code_bounds.specs.LoweredLaws.{ProgramsHaveFewSteps, steps_in, TemporariesAreFew, FramesAreWithin, FramesWeighLess}
 use Rattle.code_bounds.specs.Prices.{Prices, in_steps, AreBytes, paid, price_of, price_of_all, price_of_code, price_of_parameters, price_of_routine}
 use Rattle.code_bounds.specs.Prices.{price_of_routines}
 use Rattle.code_bounds.specs.Scopes.{HasScopes, IsScopedBody}
 use Rattle.tac_ir.specs.Temporaries.{top_of_all}
+use Rattle.tac_ir.specs.Turns.{AllLeadOn, JumpsLeadOn, LeadsOnIfAny, TakesTurn}
 use Rattle.code_bounds.specs.Temporaries.{temporaries}
 use Rattle.code_bounds.proofs.Grows.{Each, each_all, LeadsIfAny, AllFit, Keeps}
 use Rattle.code_bounds.proofs.Outs as Outs
-use Rattle.code_bounds.proofs.Outs.{each, scope_price}
+use Rattle.code_bounds.proofs.Outs.{each, scope_price, Starts}
 use Rattle.code_bounds.proofs.Statements as Statements
 use Rattle.code_bounds.proofs.Statements.{price}
 use Rattle.code_bounds.proofs.Routines.{some_same, is_of}
@@ -88,7 +89,7 @@ module _ (c : Prices) (p : ProgramData) (g : ℕ) (f : FunctionData) (body : Sta
       (Statements.statement_grows c most p g (all_locals f) roomy body (omega arith)) blocks
       (function_exits p) (last_code p g f) (omega arith) (record { on_break = tt; on_continue = tt; on_return = tt })
 
-  body_fits : AllFit c most kinds sizes (length out.code) (length out.labels) out.code
+  body_fits : AllFit c most kinds sizes (length out.labels) out.code
   body_fits = body_made.sound ((tt, Outs.fallen_below c most kinds sizes p g (all_locals f) roomy refl refl, (tt, tt)), tt)
 
   scope_within : (b : Bool) → Outs.scope_price c most kinds sizes p g (all_locals f) roomy refl refl b parameters ≤ 4 * c.step + 4 * each c.step parameters
@@ -113,15 +114,16 @@ same_parameters c make (x ∷ all) = let h = same_parameters c make all in omega
 
 -- ---- jumps
 
-jumps_of_steps : (c : Prices) (top : ℕ) (own : List Bool) (each_size : List ℕ) (r : RoutineData) → Each (IsInside (length r.code)) r.labels → (code : Steps)
-    → AllFit c top own each_size (length r.code) (length r.labels) code → Each (λ s. LeadsInsideIfAny r (target_of s)) code
-jumps_of_steps c top own each_size r set [] e = tt
-jumps_of_steps c top own each_size r set (s ∷ code) e = (by_target (target_of s) e.0.0, jumps_of_steps c top own each_size r set code e.1)
+jumps_of_steps : (c : Prices) (top : ℕ) (own : List Bool) (each_size : List ℕ) (r : RoutineData) → Each (Starts r.code) r.labels → (code : Steps)
+    → length code ≤ length r.code → AllFit c top own each_size (length r.labels) code → Each (λ s. LeadsInsideIfAny r (target_of s)) code
+jumps_of_steps c top own each_size r set [] n e = tt
+jumps_of_steps c top own each_size r set (s ∷ code) n e =
+    (by_target (target_of s) e.0.0, jumps_of_steps c top own each_size r set code (omega (arith, n)) e.1)
   where
-    by_target : (o : Option Target) → LeadsIfAny (length r.code) (length r.labels) o → LeadsInsideIfAny r o
+    by_target : (o : Option Target) → LeadsIfAny (length code) (length r.labels) o → LeadsInsideIfAny r o
     by_target None h = tt
-    by_target (Some (To.Left k)) h = h
-    by_target (Some (To.Label l)) h = entry (IsInside (length r.code)) r.labels l h set
+    by_target (Some (To.Left k)) h = (h.0, omega (arith, n, h.1))
+    by_target (Some (To.Label l)) h = let z = entry (Starts r.code) r.labels l h set in (z.0, z.1, z.2.0)
 
 jumps_of_function : (p : ProgramData) (g : ℕ) (f : FunctionData) (b : Option (Statement ℕ)) → JumpsWithin (routine_of p f (code_if_any p g f b))
 jumps_of_function p g f None = each_all (λ s. LeadsInsideIfAny (routine_of p f (code_if_any p g f None)) (target_of s)) [] tt
@@ -130,7 +132,7 @@ jumps_of_function p g f (Some body) =
     let m = body_made in_steps p g f body in
     each_all (λ s. LeadsInsideIfAny r (target_of s)) r.code
     (jumps_of_steps in_steps (most in_steps p g f body) (kinds in_steps p g f body) (sizes in_steps p g f body) r
-    (subst (λ (all : List ℕ). Each (IsInside (length r.code)) all) (sym m.is) m.set) r.code
+    (subst (λ (all : List ℕ). Each (Starts r.code) all) (sym m.is) m.set) r.code (omega arith)
     (body_fits in_steps p g f body))
 
 pub jumps : JumpsStand
@@ -139,6 +141,40 @@ jumps p = each_all JumpsWithin (routines_from p 0 p.functions) (from 0 p.functio
     from : (g : ℕ) (all : List FunctionData) → Each JumpsWithin (routines_from p g all)
     from g [] = tt
     from g (f ∷ more) = (jumps_of_function p g f f.body, from (suc g) more)
+
+-- ---- jumps lead on
+
+label_is : (all : List ℕ) (l k : ℕ) → slice_get all l ≡ Some k → get_or all l 0 ≡ k
+label_is [] l k e = cc
+label_is (x ∷ all) zero k e = cc
+label_is (x ∷ all) (suc l) k e = label_is all l k e
+
+on_of_steps : (c : Prices) (top : ℕ) (own : List Bool) (each_size : List ℕ) (r : RoutineData) → Each (Starts r.code) r.labels → (code : Steps)
+    → AllFit c top own each_size (length r.labels) code → AllLeadOn r code
+on_of_steps c top own each_size r set [] e = tt
+on_of_steps c top own each_size r set (s ∷ code) e = (by_target (target_of s) e.0.0, on_of_steps c top own each_size r set code e.1)
+  where
+    by_target : (o : Option Target) → LeadsIfAny (length code) (length r.labels) o → LeadsOnIfAny r (length code) o
+    by_target None h = tt
+    by_target (Some (To.Left k)) h = h.1
+    by_target (Some (To.Label l)) h =
+        let z = entry (Starts r.code) r.labels l h set in
+        subst (λ (k : ℕ). TakesTurn (left k r.code)) (sym (label_is r.labels l z.0 z.1)) z.2.1
+
+on_of_function : (p : ProgramData) (g : ℕ) (f : FunctionData) (b : Option (Statement ℕ)) → JumpsLeadOn (routine_of p f (code_if_any p g f b))
+on_of_function p g f None = tt
+on_of_function p g f (Some body) =
+    let r = routine_of p f (body_code p g f body) in
+    let m = body_made in_steps p g f body in
+    on_of_steps in_steps (most in_steps p g f body) (kinds in_steps p g f body) (sizes in_steps p g f body) r
+    (subst (λ (all : List ℕ). Each (Starts r.code) all) (sym m.is) m.set) r.code (body_fits in_steps p g f body)
+
+pub jumps_on : AllJumpsLeadOn
+jumps_on p = each_all JumpsLeadOn (routines_from p 0 p.functions) (from 0 p.functions)
+  where
+    from : (g : ℕ) (all : List FunctionData) → Each JumpsLeadOn (routines_from p g all)
+    from g [] = tt
+    from g (f ∷ more) = (on_of_function p g f f.body, from (suc g) more)
 
 -- ---- kinds of locals
 
@@ -181,16 +217,16 @@ keeps_kinds c top own each_size (S.Return a) h = h
 keeps_kinds c top own each_size (S.ReturnHeld t) h = h
 keeps_kinds c top own each_size (S.Fail kind at) h = h
 
-kinds_of_steps : (c : Prices) (top : ℕ) (own : List Bool) (each_size : List ℕ) (n l : ℕ) (code : Steps) → AllFit c top own each_size n l code → Each (KeepsKinds own) code
-kinds_of_steps c top own each_size n l [] e = tt
-kinds_of_steps c top own each_size n l (s ∷ code) e = (keeps_kinds c top own each_size s e.0.2, kinds_of_steps c top own each_size n l code e.1)
+kinds_of_steps : (c : Prices) (top : ℕ) (own : List Bool) (each_size : List ℕ) (l : ℕ) (code : Steps) → AllFit c top own each_size l code → Each (KeepsKinds own) code
+kinds_of_steps c top own each_size l [] e = tt
+kinds_of_steps c top own each_size l (s ∷ code) e = (keeps_kinds c top own each_size s e.0.2, kinds_of_steps c top own each_size l code e.1)
 
 kinds_of_function : (p : ProgramData) (g : ℕ) (f : FunctionData) (b : Option (Statement ℕ)) → KindsWithin (routine_of p f (code_if_any p g f b))
 kinds_of_function p g f None = each_all (KeepsKinds (map (λ l. l.block) (all_locals f))) [] tt
 kinds_of_function p g f (Some body) =
     let out = body_code p g f body in
     let all = kinds in_steps p g f body in
-    each_all (KeepsKinds all) out.code (kinds_of_steps in_steps (most in_steps p g f body) all (sizes in_steps p g f body) (length out.code) (length out.labels) out.code
+    each_all (KeepsKinds all) out.code (kinds_of_steps in_steps (most in_steps p g f body) all (sizes in_steps p g f body) (length out.labels) out.code
     (body_fits in_steps p g f body))
 
 pub kinds_stand : KindsStand
@@ -257,16 +293,16 @@ has_own_size c top own each_size (S.Return a) h = tt
 has_own_size c top own each_size (S.ReturnHeld t) h = tt
 has_own_size c top own each_size (S.Fail kind at) h = tt
 
-sizes_of_steps : (c : Prices) (top : ℕ) (own : List Bool) (each_size : List ℕ) (n l : ℕ) (code : Steps) → AllFit c top own each_size n l code → Each (HasOwnSize each_size) code
-sizes_of_steps c top own each_size n l [] e = tt
-sizes_of_steps c top own each_size n l (s ∷ code) e = (has_own_size c top own each_size s e.0.2, sizes_of_steps c top own each_size n l code e.1)
+sizes_of_steps : (c : Prices) (top : ℕ) (own : List Bool) (each_size : List ℕ) (l : ℕ) (code : Steps) → AllFit c top own each_size l code → Each (HasOwnSize each_size) code
+sizes_of_steps c top own each_size l [] e = tt
+sizes_of_steps c top own each_size l (s ∷ code) e = (has_own_size c top own each_size s e.0.2, sizes_of_steps c top own each_size l code e.1)
 
 sizes_of_function : (p : ProgramData) (g : ℕ) (f : FunctionData) (b : Option (Statement ℕ)) → All (HasOwnSize (sizes_of_locals p f)) (code_if_any p g f b).code
 sizes_of_function p g f None = each_all (HasOwnSize (sizes_of_locals p f)) [] tt
 sizes_of_function p g f (Some body) =
     let out = body_code p g f body in
     each_all (HasOwnSize (sizes_of_locals p f)) out.code (sizes_of_steps in_steps (most in_steps p g f body) (kinds in_steps p g f body) (sizes_of_locals p f)
-    (length out.code) (length out.labels) out.code (body_fits in_steps p g f body))
+    (length out.labels) out.code (body_fits in_steps p g f body))
 
 pub sizes_stand : SizesStand
 sizes_stand p r f i =
@@ -450,16 +486,16 @@ programs_have_few_steps p scopes bounded =
 
 -- ---- temporaries
 
-greatest : (c : Prices) (top : ℕ) (own : List Bool) (each_size : List ℕ) (n l : ℕ) (code : Steps) → AllFit c top own each_size n l code → top_of_all code ≤ top
-greatest c top own each_size n l [] e = omega arith
-greatest c top own each_size n l (s ∷ code) e = let a = greatest c top own each_size n l code e.1 in let b = e.0.1 in omega (arith, a, b)
+greatest : (c : Prices) (top : ℕ) (own : List Bool) (each_size : List ℕ) (l : ℕ) (code : Steps) → AllFit c top own each_size l code → top_of_all code ≤ top
+greatest c top own each_size l [] e = omega arith
+greatest c top own each_size l (s ∷ code) e = let a = greatest c top own each_size l code e.1 in let b = e.0.1 in omega (arith, a, b)
 
 temporaries_of_function : (p : ProgramData) (g : ℕ) (f : FunctionData) (b : Option (Statement ℕ))
     → top_of_all (code_if_any p g f b).code ≤ length (routine_of p f (code_if_any p g f b)).locals + weight_of_body temporaries f b
 temporaries_of_function p g f None = omega arith
 temporaries_of_function p g f (Some body) =
     let out = body_code p g f body in
-    let a = greatest in_steps (most in_steps p g f body) (kinds in_steps p g f body) (sizes in_steps p g f body) (length out.code) (length out.labels) out.code
+    let a = greatest in_steps (most in_steps p g f body) (kinds in_steps p g f body) (sizes in_steps p g f body) (length out.labels) out.code
     (body_fits in_steps p g f body) in
     let b = one_more (λ (l : Local). l.block) (all_locals f) in omega (arith, a, b)
 

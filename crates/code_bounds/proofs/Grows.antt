@@ -1,6 +1,7 @@
 -- What code that is made before other code adds to it.
 use Rattle.std.proofs.Common.{◌≡◌, ◌≢◌, slice_get, ℕ, zero, suc, ◌+◌, ◌<◌, ◌≤◌, Bool, true, false, List, [], ◌∷◌, length, All, Option, Some, None, refl}
-use Rattle.std.proofs.Common.{arith}
+use Rattle.std.proofs.Common.{arith, ap, ◌∙◌, drop}
+use Rattle.std.specs.Prelude.{◌-◌}
 use Rattle.lay_base.specs.declared.place.Place.{Place}
 use Rattle.tac_ir.specs.declared.step.Operand.{Operand}
 use Rattle.tac_ir.specs.declared.step.Operand.TheVariants as O
@@ -10,6 +11,7 @@ use Rattle.tac_ir.specs.declared.step.Target.{Target}
 use Rattle.tac_ir.specs.declared.step.Target.TheVariants as To
 use Rattle.lower_tac.specs.Parts.{Steps, Part, temp, or_temp, operand, unless_any, code_of, tested_if, held, fixed, settled, settled_operand, left_code}
 use Rattle.lower_tac.specs.Parts.{left_operand, both_code}
+use Rattle.tac_ir.specs.Code.{left}
 use Rattle.tac_ir.specs.Jumps.{IsInside, target_of}
 use Rattle.tac_ir.specs.Kinds.{IsOpenIfAny, IsBlockIfAny, taken_by, block_of}
 use Rattle.code_bounds.specs.Prices.{Prices, price_of, price_of_all}
@@ -29,7 +31,7 @@ past [] d h = refl
 past (x ∷ all) zero h = absurd (let r : suc (length all) ≤ 0 = h in omega (arith, r))
 past (x ∷ all) (suc d) h = past all d (omega (arith, h))
 
--- ---- a step among so many with so many labels
+-- ---- a step before so many with so many labels
 
 abbrev pub Leads : (n l : ℕ) → Target → Type 0
 Leads n l (To.Left k) = IsInside n k
@@ -43,9 +45,13 @@ pub leads_later : {n m l k : ℕ} (to : Target) → n ≤ m → l ≤ k → Lead
 leads_later (To.Left i) h g x = (x.0, omega (arith, h, x.1))
 leads_later (To.Label i) h g x = omega (arith, g, x)
 
-leads_any_later : {n m l k : ℕ} (to : Option Target) → n ≤ m → l ≤ k → LeadsIfAny n l to → LeadsIfAny m k to
+pub leads_any_later : {n m l k : ℕ} (to : Option Target) → n ≤ m → l ≤ k → LeadsIfAny n l to → LeadsIfAny m k to
 leads_any_later None h g x = tt
 leads_any_later (Some to) h g x = leads_later to h g x
+
+-- what is left is what was left before a step came in front
+left_behind : (s : Step) (code : Steps) (k : ℕ) → k ≤ length code → left k (s ∷ code) ≡ left k code
+left_behind s code k h = ap (λ n. drop n (s ∷ code)) (let e : suc (length code) - k ≡ suc (length code - k) = omega (arith, h) in e)
 
 module _ (c : Prices) (most : ℕ) (kinds : List Bool) (sizes : List ℕ) where
   -- a temporary that may be written
@@ -70,12 +76,14 @@ module _ (c : Prices) (most : ℕ) (kinds : List Bool) (sizes : List ℕ) where
   abbrev pub Fits : (n l : ℕ) → Step → Type 0
   Fits n l s = LeadsIfAny n l (target_of s) × (top_of s ≤ most) × Keeps s
 
-  abbrev pub AllFit : (n l : ℕ) → Steps → Type 0
-  AllFit n l code = Each (Fits n l) code
+  -- each before those behind it
+  abbrev pub AllFit : (l : ℕ) → Steps → Type 0
+  AllFit l [] = Unit {0}
+  AllFit l (s ∷ code) = Fits (length code) l s × AllFit l code
 
-  pub fit_later : {n m l k : ℕ} (code : Steps) → n ≤ m → l ≤ k → AllFit n l code → AllFit m k code
-  fit_later [] h g x = tt
-  fit_later (s ∷ code) h g x = ((leads_any_later (target_of s) h g x.0.0, x.0.1, x.0.2), fit_later code h g x.1)
+  pub fit_later : {l k : ℕ} (code : Steps) → l ≤ k → AllFit l code → AllFit k code
+  fit_later [] g x = tt
+  fit_later (s ∷ code) g x = ((leads_any_later {n = length code} {m = length code} (target_of s) (omega arith) g x.0.0, x.0.1, x.0.2), fit_later code g x.1)
 
   module _ (labels : ℕ) where
     -- so much is paid for it, and so much is left
@@ -83,10 +91,11 @@ module _ (c : Prices) (most : ℕ) (kinds : List Bool) (sizes : List ℕ) where
       pub longer : length code ≤ length whole
       pub dearer : price_of_all c code ≤ price_of_all c whole
       pub cost : price_of_all c whole + rest ≤ paid + price_of_all c code
-      pub sound : AllFit (length code) labels code → AllFit (length whole) labels whole
+      pub ends : (k : ℕ) → k ≤ length code → left k whole ≡ left k code
+      pub sound : AllFit labels code → AllFit labels whole
 
     pub same : {code : Steps} → Grows 0 0 code code
-    same = record { longer = omega arith; dearer = omega arith; cost = omega arith; sound = λ a. a }
+    same = record { longer = omega arith; dearer = omega arith; cost = omega arith; ends = λ k h. refl; sound = λ a. a }
 
     pub one : (s : Step) (code : Steps) → LeadsIfAny (length code) labels (target_of s) → top_of s ≤ most → Keeps s
         → Grows 0 (price_of c s) code (s ∷ code)
@@ -94,10 +103,8 @@ module _ (c : Prices) (most : ℕ) (kinds : List Bool) (sizes : List ℕ) where
       longer = omega arith;
       dearer = omega arith;
       cost = omega arith;
-      sound = λ a. (
-        (leads_any_later {n = length code} {m = suc (length code)} (target_of s) (omega arith) (omega arith) to, h, keeps),
-        fit_later code (omega arith) (omega arith) a,
-      );
+      ends = λ k low. left_behind s code k low;
+      sound = λ a. ((to, h, keeps), a);
     }
 
     pub next : {r q v w : ℕ} {code middle whole : Steps} → Grows r v code middle → Grows q w middle whole → Grows (r + q) (v + w) code whole
@@ -105,11 +112,12 @@ module _ (c : Prices) (most : ℕ) (kinds : List Bool) (sizes : List ℕ) where
       longer = (let x = a.longer in let y = b.longer in omega (arith, x, y));
       dearer = (let x = a.dearer in let y = b.dearer in omega (arith, x, y));
       cost = (let x = a.cost in let y = b.cost in omega (arith, x, y));
+      ends = λ k h. b.ends k (let x = a.longer in omega (arith, h, x)) ∙ a.ends k h;
       sound = λ z. b.sound (a.sound z);
     }
 
     pub pay : {r v q w : ℕ} {code whole : Steps} → q + v ≤ r + w → Grows r v code whole → Grows q w code whole
-    pay h a = record { longer = a.longer; dearer = a.dearer; cost = (let x = a.cost in omega (arith, x, h)); sound = a.sound }
+    pay h a = record { longer = a.longer; dearer = a.dearer; cost = (let x = a.cost in omega (arith, x, h)); ends = a.ends; sound = a.sound }
 
     -- ---- operands
 
@@ -124,6 +132,7 @@ module _ (c : Prices) (most : ℕ) (kinds : List Bool) (sizes : List ℕ) where
       longer = omega arith;
       dearer = omega arith;
       cost = (let x = a.cost in let y = a.dearer in omega (arith, x, y));
+      ends = λ k h. refl;
       sound = λ z. z;
     }
 

@@ -5,6 +5,7 @@ mod Outs
 mod Statements
 mod Scoped
 mod Weights
+mod Asked
 pub mod Routines
 mod Functions
 mod Typed

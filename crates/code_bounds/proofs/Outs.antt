@@ -1,6 +1,6 @@
 -- What the code of a statement adds to what is there, with its labels.
 use Rattle.std.proofs.Common.{map, subst, ◌≢◌, ◌≡◌, ℕ, suc, ◌+◌, ◌*◌, ◌<◌, ◌≤◌, Bool, true, false, List, [], ◌∷◌, ◌++◌, length, Option, Some, None, refl, sym}
-use Rattle.std.proofs.Common.{ap, ◌∙◌, arith}
+use Rattle.std.proofs.Common.{ap, ◌∙◌, arith, drop}
 use Rattle.std.proofs.Common.{slice_get, slice_set, if◌then◌else◌}
 use Rattle.std.specs.Prelude.{◌-◌, ◌==◌}
 use Rattle.c_typed.specs.declared.program.Local.{Local}
@@ -19,11 +19,13 @@ use Rattle.lower_tac.specs.declared.ways.ReturnWay.{ReturnWay}
 use Rattle.lower_tac.specs.Statements.{Out, before, by, here, with_label}
 use Rattle.lower_tac.specs.Statements.{fallen, exit_code, back_code, begin_code, begins_code, end_code, ends_code, return_end, continue_end, break_end}
 use Rattle.lower_tac.specs.Statements.{have_blocks, scope_code, scoped_code, round}
+use Rattle.tac_ir.specs.Code.{left}
 use Rattle.tac_ir.specs.Jumps.{IsInside}
+use Rattle.tac_ir.specs.Turns.{TakesTurn}
 use Rattle.code_bounds.specs.Prices.{Prices, price_of_all}
 use Rattle.tac_ir.specs.Temporaries.{top_if_any}
 use Rattle.code_bounds.proofs.Grows as Grows
-use Rattle.code_bounds.proofs.Grows.{Each, Leads, LeadsIfAny, leads_later, AllFit, fit_later}
+use Rattle.code_bounds.proofs.Grows.{Each, Leads, leads_later, AllFit, fit_later}
 use Rattle.code_bounds.proofs.Expressions as Parts
 
 -- ---- lists
@@ -33,9 +35,21 @@ abbrev pub each : {A : Type 0} → (price : ℕ) → List A → ℕ
 each price [] = 0
 each price (x ∷ all) = price + each price all
 
-inside_later : {n m : ℕ} → n ≤ m → (all : List ℕ) → Each (IsInside n) all → Each (IsInside m) all
-inside_later h [] e = tt
-inside_later h (k ∷ all) e = ((e.0.0, omega (arith, h, e.0.1)), inside_later h all e.1)
+-- where a turn is taken, with so many steps left
+abbrev pub Starts : Steps → ℕ → Type 0
+Starts code k = IsInside (length code) k × TakesTurn (left k code)
+
+starts_later : (code whole : Steps) → length code ≤ length whole → ((k : ℕ) → k ≤ length code → left k whole ≡ left k code) → (all : List ℕ)
+    → Each (Starts code) all → Each (Starts whole) all
+starts_later code whole h same [] e = tt
+starts_later code whole h same (k ∷ all) e = (
+  ((e.0.0.0, omega (arith, h, e.0.0.1)), subst (λ (rest : Steps). TakesTurn rest) (sym (same k e.0.0.1)) e.0.1),
+  starts_later code whole h same all e.1,
+)
+
+-- at the front of the code
+at_front : (code : Steps) → left (length code) code ≡ code
+at_front code = ap (λ n. drop n code) (let e : length code - length code ≡ 0 = omega arith in e)
 
 each_append : {A : Type 0} (P : A → Type 0) (a b : List A) → Each P a → Each P b → Each P (a ++ b)
 each_append P [] b e h = h
@@ -114,8 +128,9 @@ module _ (c : Prices) (most : ℕ) (kinds : List Bool) (sizes : List ℕ) where
     pub is : wide ≡ labels ++ more
     -- each stands before a step of its own
     pub few : length more + length code ≤ length whole
-    pub set : Each (IsInside (length whole)) more
-    pub sound : AllFit c most kinds sizes (length code) (length labels) code → AllFit c most kinds sizes (length whole) (length wide) whole
+    pub set : Each (Starts whole) more
+    pub ends : (k : ℕ) → k ≤ length code → left k whole ≡ left k code
+    pub sound : AllFit c most kinds sizes (length labels) code → AllFit c most kinds sizes (length wide) whole
 
   pub wider : {paid : ℕ} {code whole : Steps} {labels wide : List ℕ} → Made paid code labels whole wide → length labels ≤ length wide
   wider {labels = labels} {wide = wide} a =
@@ -123,7 +138,7 @@ module _ (c : Prices) (most : ℕ) (kinds : List Bool) (sizes : List ℕ) where
       let e : length wide ≡ length (labels ++ a.more) = ap length a.is in omega (arith, h, e)
 
   pub unmade : {code : Steps} {labels : List ℕ} → Made 0 code labels code labels
-  unmade {labels = labels} = record { longer = omega arith; cost = omega arith; more = []; is = no_more labels; few = omega arith; set = tt; sound = λ a. a }
+  unmade {labels = labels} = record { longer = omega arith; cost = omega arith; more = []; is = no_more labels; few = omega arith; set = tt; ends = λ k h. refl; sound = λ a. a }
 
   pub made : {r w : ℕ} {code whole : Steps} (labels : List ℕ) → Grows.Grows c most kinds sizes (length labels) r w code whole → Made w code labels whole labels
   made labels a =
@@ -136,6 +151,7 @@ module _ (c : Prices) (most : ℕ) (kinds : List Bool) (sizes : List ℕ) where
         few =
             (let x = a.longer in omega (arith, x));
         set = tt;
+        ends = a.ends;
         sound = a.sound;
       }
 
@@ -147,12 +163,13 @@ module _ (c : Prices) (most : ℕ) (kinds : List Bool) (sizes : List ℕ) where
     more = a.more ++ b.more;
     is = b.is ∙ ap (λ (e : List ℕ). e ++ b.more) a.is ∙ and_more labels a.more b.more;
     few = (let x = a.few in let y = b.few in let z = both_lengths a.more b.more in omega (arith, x, y, z));
-    set = each_append (IsInside (length whole)) a.more b.more (inside_later b.longer a.more a.set) b.set;
+    set = each_append (Starts whole) a.more b.more (starts_later middle whole b.longer b.ends a.more a.set) b.set;
+    ends = λ k h. b.ends k (let x = a.longer in omega (arith, h, x)) ∙ a.ends k h;
     sound = λ z. b.sound (a.sound z);
   }
 
   pub pay : {v w : ℕ} {code whole : Steps} {labels wide : List ℕ} → v ≤ w → Made v code labels whole wide → Made w code labels whole wide
-  pay h a = record { longer = a.longer; cost = (let x = a.cost in omega (arith, x, h)); more = a.more; is = a.is; few = a.few; set = a.set; sound = a.sound }
+  pay h a = record { longer = a.longer; cost = (let x = a.cost in omega (arith, x, h)); more = a.more; is = a.is; few = a.few; set = a.set; ends = a.ends; sound = a.sound }
 
   -- what is made of any code, with its ways out
   abbrev pub Makes : (paid : ℕ) → (Exits → Out → Out) → Type 0
@@ -317,6 +334,8 @@ module _ (c : Prices) (most : ℕ) (kinds : List Bool) (sizes : List ℕ) where
         let begun = S.Began g (inner.loops - 1) ∷ inner.code in
         let h = enter m (here tested) begun (omega (arith, n, al), omega (arith, bl, dl)) in
         let hl = h.longer in
+        let last : (k : ℕ) → k ≤ length inner.code → left k (enters (here tested) begun) ≡ left k inner.code
+        = λ k z. h.ends k (omega (arith, z)) ∙ f.ends k z in
         let as_many = as_many_labels out.labels d.more inner.labels (length begun) d.is in
         record {
           longer = omega (arith, al, bl, dl, hl);
@@ -324,7 +343,11 @@ module _ (c : Prices) (most : ℕ) (kinds : List Bool) (sizes : List ℕ) where
           more = length begun ∷ d.more;
           is = label_set out.labels d.more inner.labels (length begun) d.is;
           few = (let x = d.few in omega (arith, al, bl, hl, x));
-          set = ((omega arith, hl), inside_later (omega (arith, hl)) d.more d.set);
-          sound = λ z. fit_later c most kinds sizes (enters (here tested) begun) (omega arith) (omega (arith, as_many))
-              (h.sound (f.sound (d.sound (b.sound (a.sound (fit_later c most kinds sizes out.code (omega arith) (omega (arith, one_more)) z))))));
+          set = (
+            ((omega arith, hl), subst (λ (rest : Steps). TakesTurn rest) (sym (h.ends (length begun) (omega arith) ∙ at_front begun)) refl),
+            starts_later inner.code (enters (here tested) begun) (omega (arith, hl)) last d.more d.set,
+          );
+          ends = λ k z. last k (omega (arith, z, al, bl, dl)) ∙ d.ends k (omega (arith, z, al, bl)) ∙ b.ends k (omega (arith, z, al)) ∙ a.ends k z;
+          sound = λ z. fit_later c most kinds sizes (enters (here tested) begun) (omega (arith, as_many))
+              (h.sound (f.sound (d.sound (b.sound (a.sound (fit_later c most kinds sizes out.code (omega (arith, one_more)) z))))));
         }

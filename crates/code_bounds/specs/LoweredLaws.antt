@@ -1,10 +1,13 @@
 -- The laws of lowered code.
-use Rattle.std.specs.Prelude.{◌≡◌, ◌≢◌, ℕ, ◌+◌, ◌*◌, ◌≤◌, List, [], ◌∷◌, length, map, All, Some, None, slice_get}
+use Rattle.std.specs.Prelude.{◌≡◌, ◌≢◌, ℕ, ◌+◌, ◌*◌, ◌^◌, ◌<◌, ◌≤◌, List, [], ◌∷◌, length, map, All, Some, None, slice_get}
+use Rattle.lay_base.specs.declared.place.File.{File}
 use Rattle.c_typed.specs.Programs.{FunctionData, ProgramData}
 use Rattle.c_meaning.specs.Program.{all_locals, size_at}
 use Rattle.tac_ir.specs.Code.{RoutineData}
 use Rattle.tac_ir.specs.declared.step.Step.{Step}
 use Rattle.tac_ir.specs.declared.step.Step.TheVariants as S
+use Rattle.c_link.specs.Programs.{IsProgramOf}
+use Rattle.lower_tac.specs.Asked.{asked_by_functions}
 use Rattle.lower_tac.specs.Statements.{lowered}
 use Rattle.c_well_typed.specs.ProgramWeights.Bounds.{IsProgramBounded}
 use Rattle.c_well_typed.specs.ProgramWeights.Counted.{code, frame}
@@ -12,6 +15,7 @@ use Rattle.c_well_typed.specs.ProgramWeights.Weights.{weight_of_function, code_w
 use Rattle.c_well_typed.specs.WellTyped.{of_program, HasMain, HaveTypedFunctions}
 use Rattle.tac_ir.specs.Jumps.{JumpsWithin}
 use Rattle.tac_ir.specs.Kinds.{KindsWithin}
+use Rattle.tac_ir.specs.Turns.{JumpsLeadOn}
 use Rattle.code_bounds.specs.Prices.{Prices, in_steps, AreBytes, paid, price_of_routine, price_of_routines}
 use Rattle.code_bounds.specs.Scopes.{HasScopes}
 use Rattle.tac_ir.specs.Temporaries.{top_of_all}
@@ -26,6 +30,10 @@ pub record IsRoutineOf (p : ProgramData) (r : RoutineData) (f : FunctionData) : 
 -- each jump leads to a step of its function
 abbrev pub JumpsStand : Type 0
 JumpsStand = (p : ProgramData) → All JumpsWithin (lowered p).routines
+
+-- each jump leads on, or back to where a turn is taken
+abbrev pub AllJumpsLeadOn : Type 0
+AllJumpsLeadOn = (p : ProgramData) → All JumpsLeadOn (lowered p).routines
 
 -- no step writes a local that lies in a block, and each block of which one speaks is a local's
 abbrev pub KindsStand : Type 0
@@ -99,3 +107,7 @@ FramesWeighLess = (f : FunctionData) → 8 * weight_of_function frame f ≤ weig
 -- the locals of well typed functions stand in the scopes that declare them
 abbrev pub TypedHaveScopes : Type 0
 TypedHaveScopes = (p : ProgramData) → HaveTypedFunctions (of_program p) → All HasScopes p.functions
+
+-- the code of a program of files asks for fewer numbers than 32 bits count
+abbrev pub FewAreAsked : Type 0
+FewAreAsked = (files : List File) (p : ProgramData) → IsProgramOf files p → asked_by_functions p.functions < 2 ^ 32

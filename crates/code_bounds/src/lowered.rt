@@ -1,13 +1,20 @@
 //! What holds of lowered code.
 
-ghost use Rattle.code_bounds.specs.LoweredLaws.{BytesAreWithin, CodeIsPaid, FramesAreWithin, JumpsStand, KindsStand, LabelsAreFew, ProgramsAreWithin};
-ghost use Rattle.code_bounds.specs.LoweredLaws.{BytesAreLeft, SizesStand, FramesWeighLess};
+ghost use Rattle.code_bounds.specs.LoweredLaws.{AllJumpsLeadOn, BytesAreWithin, CodeIsPaid, FramesAreWithin, JumpsStand, KindsStand, LabelsAreFew, ProgramsAreWithin};
+ghost use Rattle.code_bounds.specs.LoweredLaws.{BytesAreLeft, FewAreAsked, SizesStand, FramesWeighLess};
 ghost use Rattle.code_bounds.specs.LoweredLaws.{ProgramsHaveFewSteps, StepsAreFew, TemporariesAreFew, TypedHaveScopes};
+
+use c_well_typed::{programs_are_bounded, programs_are_within_limits};
 
 /// Each jump leads to a step of its function. The last step of a function with a body is a return, so something is left at each place to which a jump
 /// leads, and each label that is used is set.
 pub fn jumps_stand()
     ensures { JumpsStand }
+{}
+
+/// Each jump leads on, or back to where the body of a loop begins, which takes a turn: so between two turns a function takes no more steps than it has.
+pub fn jumps_lead_on()
+    ensures { AllJumpsLeadOn }
 {}
 
 /// A step writes temporaries and locals that are kept by name, and no local that lies in a block; each block of which a step speaks is that of a local.
@@ -74,3 +81,11 @@ pub fn frames_weigh_less()
 pub fn typed_functions_have_scopes()
     ensures { TypedHaveScopes }
 {}
+
+/// The code of a program of files asks for fewer temporaries and loops than 32 bits count, so none of them is without a number.
+pub fn few_are_asked()
+    ensures { FewAreAsked }
+{
+    programs_are_bounded();
+    programs_are_within_limits();
+}

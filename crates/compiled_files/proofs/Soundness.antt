@@ -18,3 +18,4 @@ pub mod Fits
 pub mod Functions
 pub mod Blocks
 pub mod Sound
+pub mod Steady

@@ -1,7 +1,7 @@
-//! The law of images, by those of runs of code and those of the crates below.
+//! The laws of images and of steady code, by those of runs of code and those of the crates below.
 
 ghost use Rattle.c_typed.specs.Programs.{program_data};
-ghost use Rattle.compiled_files.specs.Laws.{ImageIsOfProgram};
+ghost use Rattle.compiled_files.specs.Laws.{ImageIsOfProgram, ProgramHasSmallTypes, ProgramIsSteady};
 
 use crate::code_runs::{
     allocations_have_room, calls_have_room, earlier_fits, light_runs_fit, runs_add, steps_add,
@@ -9,13 +9,25 @@ use crate::code_runs::{
 use c_meaning::runs_have_room;
 use c_printable::programs_are_printable;
 use c_typed::Typed;
-use c_well_typed::{initials_lie_within, programs_are_bounded, programs_are_well_typed};
+use c_well_typed::{
+    initials_lie_within, programs_are_bounded, programs_are_well_typed, programs_have_small_arrays,
+};
 use code_bounds::{
-    frames_are_weighed, functions_are_as_long, jumps_stand, kinds_stand, programs_are_as_long,
-    programs_fit, steps_are_as_long, typed_functions_have_scopes,
+    frames_are_weighed, functions_are_as_long, jumps_lead_on, jumps_stand, kinds_stand,
+    programs_are_as_long, programs_fit, steps_are_as_long, typed_functions_have_scopes,
 };
 use lower_tac::runs_are_same;
 use tac_ir::Tac;
+
+/// No type of a program of files is larger than the limit of types, nor what one points to: the arrays are within the limit, those behind pointers too, and
+/// no object is empty, so that none of them has more elements.
+pub fn types_are_small(p: &Typed)
+    ensures { ProgramHasSmallTypes (program_data p.now) }
+{
+    programs_are_well_typed(p);
+    programs_are_printable(p);
+    programs_have_small_arrays(p);
+}
 
 /// The file of the image of a program of files is one of the program, where it loads as that image. What is known of such a program makes its code sound,
 /// sound code stands in the image, and the machine on it comes to what the run of the code comes to.
@@ -42,4 +54,17 @@ pub fn images_are_of_programs(p: &Typed, t: &Tac)
     calls_have_room();
     allocations_have_room();
     runs_have_room();
+}
+
+/// The code of a program of files is steady: no function of it takes many steps without a turn, and each block of a local has room for what is put there.
+pub fn programs_are_steady(p: &Typed)
+    ensures { ProgramIsSteady (program_data p.now) }
+{
+    programs_are_well_typed(p);
+    programs_are_printable(p);
+    initials_lie_within();
+    jumps_stand();
+    kinds_stand();
+    typed_functions_have_scopes();
+    jumps_lead_on();
 }

@@ -17,11 +17,11 @@ mod code_runs;
 mod laws;
 mod stages;
 
-// A law of the start of a program's run: who runs one need not name the crate that it is from.
-pub use code_bounds::programs_start_fit;
+// Laws of a program's code and of the start of its run: who runs one need not name the crate that they are from.
+pub use code_bounds::{few_are_asked, programs_start_fit};
 pub use code_runs::{
     allocations_have_room, calls_are_within, calls_have_room, covered_runs_pass, earlier_fits,
     light_moments_fit, light_runs_fit, runs_add, runs_pass, steps_add, steps_lead, weights_rise,
 };
-pub use laws::images_are_of_programs;
+pub use laws::{images_are_of_programs, programs_are_steady, types_are_small};
 pub use stages::compiled;

@@ -1,6 +1,8 @@
 //! What becomes of the files of a row, as text.
 
 ghost use Rattle.std.specs.Prelude.{◌≤◌, All, IsTrue, length};
+ghost use Rattle.c_link.specs.Programs.{IsProgramOf};
+ghost use Rattle.c_typed.specs.Programs.{program_data};
 
 use crate::faults::{Spots, put_fault};
 use crate::plans::put_report;
@@ -10,6 +12,7 @@ use crate::row::{Question, Row};
 use crate::verdicts::put_verdicts;
 use crate::weights::put_weights;
 use c_typed::Typed;
+use compiled_files::{few_are_asked, types_are_small};
 use lay_base::{File, Files};
 use lay_compile::{CompileFault, Gap, front};
 use row_lines::Writer;
@@ -24,8 +27,11 @@ pub fn are_within_bounds(files: &[File]) -> bool
 }
 
 fn put_of_program(out: &mut Writer, alloc: Global, row: &Row, files: &[File], program: &Typed)
-    requires { All (λ file. length file.bytes ≤ 4194304) files.now }
+    requires program { IsProgramOf files.now (program_data program.now) }
+    requires short { All (λ file. length file.bytes ≤ 4194304) files.now }
 {
+    few_are_asked();
+    types_are_small(program);
     let places = row.places.as_slice();
     match row.question {
         Question::Check => out.word("accepted"),

@@ -1,9 +1,7 @@
 //! The faults of files, as text.
 
-use c_lexer::LexFault;
-use c_parser::ParseFault;
 use lay_base::{File, Name, Place, keyword_text};
-use lay_compile::{CheckFault, CompileFault, Gap, Trouble};
+use lay_compile::{CheckFault, CompileFault, Gap, LexFault, ParseFault, Trouble};
 use row_lines::Writer;
 
 /// What the text of a place depends on.
@@ -118,7 +116,7 @@ fn put_gap(out: &mut Writer, spots: Spots<'_>, gap: &Gap) {
         Gap::Limit(passed) => {
             out.word("Limit");
             out.value(&passed.which);
-            out.number(passed.counted);
+            out.value(&passed.counted);
         }
         Gap::Memory(_) => out.word("out of memory"),
     }

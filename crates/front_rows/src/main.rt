@@ -7,7 +7,6 @@
 //! A block that is no row is answered with that.
 #![tactic(auto)]
 
-mod allocation_text;
 mod answers;
 mod faults;
 mod operand_text;

@@ -22,8 +22,8 @@ pub fn put_operand(out: &mut Writer, a: Operand) {
     match a {
         Operand::Word(n) => out.number(u64::from(n)),
         Operand::Null => out.word("null"),
-        Operand::Function(f) => put_numbered(out, "f", u64::from(f)),
-        Operand::Object(n) => put_numbered(out, "o", u64::from(n)),
+        Operand::Function(f) => put_numbered(out, "f", f as u64),
+        Operand::Object(n) => put_numbered(out, "o", n as u64),
         Operand::Temp(_, t, _) => put_temporary(out, t),
     }
 }
@@ -41,8 +41,8 @@ pub fn put_row(out: &mut Writer, row: Row) {
 pub fn put_target(out: &mut Writer, to: Target) {
     out.word("->");
     match to {
-        Target::Left(n) => out.number(u64::from(n)),
-        Target::Label(l) => put_numbered(out, "l", u64::from(l)),
+        Target::Left(n) => out.number(n as u64),
+        Target::Label(l) => put_numbered(out, "l", l as u64),
     }
 }
 

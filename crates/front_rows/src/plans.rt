@@ -1,25 +1,14 @@
 //! The report of a program by its plan, as text.
 
-ghost use Rattle.std.specs.Prelude.{◌<◌, ◌≤◌, ◌^◌, All, IsTrue, length};
-ghost use Rattle.c_types.specs.Views.{records_of};
-ghost use Rattle.layout_plan.specs.Planning.{HaveFewFields};
+ghost use Rattle.std.specs.Prelude.{◌≤◌, All, length};
 
-use crate::profiles::MOST_FUNCTIONS;
 use c_typed::{Counts, Typed};
-use c_types::Record;
 use lay_base::{Bytes, File, List, NoMemory, add};
 use lay_compile::place_text;
 use lay_report::report;
 use layout_plan::{Decision, RecordPlan, planned};
 use row_lines::Writer;
 use std::alloc::Global;
-
-/// Whether each record has as few fields as a plan asks for.
-fn have_few_fields(records: &[Record]) -> bool
-    ensures { IsTrue result → All (λ r. length r.fields ≤ 64) records.now }
-{
-    records.iter().all(|r| r.fields.len() <= 64)
-}
 
 fn places_of(alloc: Global, files: &[File], plans: &[RecordPlan]) -> Result<List<Bytes>, NoMemory>
     requires { All (λ file. length file.bytes ≤ 4194304) files.now }
@@ -41,9 +30,7 @@ fn report_of(
     program: &Typed,
     counts: Option<&Counts>,
 ) -> Result<Vec<u8>, NoMemory>
-    requires short { All (λ file. length file.bytes ≤ 4194304) files.now }
-    requires fields { HaveFewFields (records_of program.now.records) }
-    requires functions { length program.now.functions < 2 ^ 32 }
+    requires { All (λ file. length file.bytes ≤ 4194304) files.now }
 {
     let planned = planned(alloc, program, counts)?;
     let places = places_of(alloc, files, planned.plan.records.as_slice())?;
@@ -51,7 +38,6 @@ fn report_of(
 }
 
 /// The report, below the name of its row.
-#[tactic(auto, using(crate::proofs::Few::few))]
 pub fn put_report(
     out: &mut Writer,
     alloc: Global,
@@ -61,12 +47,6 @@ pub fn put_report(
 )
     requires { All (λ file. length file.bytes ≤ 4194304) files.now }
 {
-    if program.functions.len() > MOST_FUNCTIONS {
-        return out.word("too many functions");
-    }
-    if !have_few_fields(program.records.as_slice()) {
-        return out.word("too many fields");
-    }
     match report_of(alloc, files, program, counts) {
         Ok(text) => {
             out.add(b"\n");

@@ -1,15 +1,16 @@
 //! Rows about profiles: texts that are read, and written again; texts that are cut off; and whether a profile fits a program.
 
-ghost use Rattle.std.specs.Prelude.{◌≤◌, ◌<◌, ◌^◌, All, IsTrue, length};
-ghost use Rattle.c_typed.specs.RunCounts.Loops.{loops_of};
-ghost use Rattle.c_typed.specs.Programs.{data_of};
+ghost use Rattle.std.specs.Prelude.{◌≤◌, List as Sequence, All, length};
+ghost use Rattle.c_link.specs.Programs.{IsProgramOf};
+ghost use Rattle.c_typed.specs.Programs.{program_data};
+ghost use Rattle.lay_base.specs.declared.place.File.{File as DeclaredFile};
 
 use crate::answers::are_within_bounds;
 use crate::faults::{Spots, put_fault};
 use crate::plans::put_report;
-use c_typed::{Counts, Function, Typed, loops_within, profile_order};
+use c_typed::{Counts, Typed, profile_order};
 use lay_base::{File, Files, Stale};
-use lay_compile::front;
+use lay_compile::{front, programs_have_few_functions, programs_have_few_loops};
 use profile_file::{ProfileFault, fits, read, write};
 use row_lines::{Writer, head_of, is_comment};
 use std::alloc::Global;
@@ -17,9 +18,6 @@ use std::io::{self, Write};
 
 /// The most bytes of a profile.
 const LONGEST: usize = 67_108_864;
-
-/// The most functions that a program may have here, as many as its nodes may be.
-pub const MOST_FUNCTIONS: usize = 131_072;
 
 /// What is asked of the text of a profile.
 #[derive(Clone, Copy)]
@@ -116,17 +114,11 @@ fn put_difference(out: &mut Writer, difference: &Stale) {
     out.number(difference.found);
 }
 
-/// Whether functions and their loops are as few as `fits` asks for.
-fn are_few(functions: &[Function]) -> bool
-    ensures { IsTrue result → (length functions.now < 2 ^ 32) × All (λ f. loops_of (data_of f) < 2 ^ 32) functions.now }
+fn put_fit(out: &mut Writer, alloc: Global, counts: &Counts, program: &Typed)
+    requires { (files : Sequence DeclaredFile) × IsProgramOf files (program_data program.now) }
 {
-    functions.len() <= MOST_FUNCTIONS && functions.iter().all(|f| loops_within(f) < u32::MAX)
-}
-
-fn put_fit(out: &mut Writer, alloc: Global, counts: &Counts, program: &Typed) {
-    if !are_few(program.functions.as_slice()) {
-        return out.word("too many functions or loops");
-    }
+    programs_have_few_functions();
+    programs_have_few_loops();
     match profile_order(alloc, program) {
         Ok(order) => match fits(counts, program, order.as_slice()) {
             Ok(()) => out.word("fits"),
@@ -144,7 +136,8 @@ fn put_by(
     files: &[File],
     program: &Typed,
 )
-    requires { All (λ file. length file.bytes ≤ 4194304) files.now }
+    requires program { (files : Sequence DeclaredFile) × IsProgramOf files (program_data program.now) }
+    requires short { All (λ file. length file.bytes ≤ 4194304) files.now }
 {
     match question {
         Question::Plan => put_report(out, alloc, files, program, Some(counts)),

@@ -1,6 +1,10 @@
 //! Programs as text: their parts on lines of their own, after the word for each, in parentheses.
 
-use crate::allocation_text::put_allocations;
+ghost use Rattle.std.specs.Prelude.{◌<◌, ◌^◌};
+ghost use Rattle.c_typed.specs.Programs.{program_data};
+ghost use Rattle.lower_tac.specs.Asked.{asked_by_functions};
+ghost use Rattle.source_values.specs.Rows.{TypesAreSmall};
+
 use crate::type_text::{put_kind, put_type, put_type_at};
 use c_typed::{
     Function, Initial, InitialValue, Local, Mention, MentionKind, Object, Statement, Typed,
@@ -8,8 +12,10 @@ use c_typed::{
 use c_types::{Field, Record, Ty};
 use lay_base::{List, Place};
 use lay_compile::{Reference, references_by_statement};
+use lower_tac::lower;
 use row_lines::Writer;
 use std::alloc::Global;
+use tac_ir::{Operand, Routine, Step, Tac};
 
 fn put_place(out: &mut Writer, place: Place) {
     out.number(u64::from(place.file));
@@ -58,11 +64,11 @@ fn put_reference(out: &mut Writer, reference: Reference) {
     match reference {
         Reference::Object(number) => {
             out.word("object");
-            out.number(u64::from(number));
+            out.number(number as u64);
         }
         Reference::Function(number) => {
             out.word("function");
-            out.number(u64::from(number));
+            out.number(number as u64);
         }
     }
 }
@@ -112,17 +118,41 @@ fn put_references(out: &mut Writer, references: &[Reference]) {
     out.close();
 }
 
+/// The records that a function allocates, in the order of its code: their number in the program, whether more than one is asked for, and whether
+/// they are zero.
+fn put_allocations(out: &mut Writer, code: &Routine) {
+    for step in code.code.as_slice().iter().rev() {
+        if let Step::Allocate(_, _, record, _, is_zero, count) = *step {
+            out.open("allocates");
+            out.number(record as u64);
+            if !matches!(count, Operand::Word(1)) {
+                out.word("counted");
+            }
+            if is_zero {
+                out.word("zero");
+            }
+            out.close();
+        }
+    }
+}
+
 /// What a body refers to, and what it allocates.
-fn put_body(out: &mut Writer, alloc: Global, body: &Statement) {
+fn put_body(out: &mut Writer, alloc: Global, body: &Statement, code: &Routine) {
     let mut found = List::new(alloc);
     match references_by_statement(&mut found, body) {
         Ok(()) => put_references(out, found.as_slice()),
         Err(_) => out.word("no-memory"),
     }
-    put_allocations(out, body);
+    put_allocations(out, code);
 }
 
-fn put_function(out: &mut Writer, alloc: Global, types: &[Ty], function: &Function) {
+fn put_function(
+    out: &mut Writer,
+    alloc: Global,
+    types: &[Ty],
+    function: &Function,
+    code: &Routine,
+) {
     out.open_line("function");
     out.bytes(function.name.as_slice());
     put_place(out, function.place);
@@ -132,7 +162,7 @@ fn put_function(out: &mut Writer, alloc: Global, types: &[Ty], function: &Functi
     put_locals(out, types, "local", function.locals.as_slice());
     match &function.body {
         None => out.word("declared"),
-        Some(body) => put_body(out, alloc, body),
+        Some(body) => put_body(out, alloc, body, code),
     }
     out.number(function.nodes);
     out.close();
@@ -177,9 +207,9 @@ fn put_objects(out: &mut Writer, types: &[Ty], objects: &[Object]) {
     }
 }
 
-fn put_functions(out: &mut Writer, alloc: Global, types: &[Ty], functions: &[Function]) {
-    for function in functions {
-        put_function(out, alloc, types, function);
+fn put_functions(out: &mut Writer, alloc: Global, p: &Typed, code: &Tac) {
+    for (function, code) in p.functions.as_slice().iter().zip(code.routines.as_slice()) {
+        put_function(out, alloc, p.types.as_slice(), function, code);
     }
 }
 
@@ -189,15 +219,21 @@ fn put_mentions(out: &mut Writer, types: &[Ty], mentions: &[Mention]) {
     }
 }
 
-pub fn put_program(out: &mut Writer, alloc: Global, p: &Typed) {
+pub fn put_program(out: &mut Writer, alloc: Global, p: &Typed)
+    requires asked { asked_by_functions (program_data p.now).functions < 2 ^ 32 }
+    requires small { TypesAreSmall (program_data p.now) }
+{
     let types = p.types.as_slice();
     put_records(out, p.records.as_slice());
     put_types(out, types);
     put_objects(out, types, p.objects.as_slice());
-    put_functions(out, alloc, types, p.functions.as_slice());
+    match lower(alloc, p) {
+        Ok(code) => put_functions(out, alloc, p, &code),
+        Err(_) => out.word("out of memory"),
+    }
     put_mentions(out, types, p.mentions.as_slice());
     out.open_line("main");
-    out.number(u64::from(p.main));
-    out.number(p.nodes);
+    out.number(p.main as u64);
+    out.value(&p.nodes);
     out.close();
 }

@@ -1,5 +1,10 @@
 //! The code of a program as text.
 
+ghost use Rattle.std.specs.Prelude.{◌<◌, ◌^◌};
+ghost use Rattle.c_typed.specs.Programs.{program_data};
+ghost use Rattle.lower_tac.specs.Asked.{asked_by_functions};
+ghost use Rattle.source_values.specs.Rows.{TypesAreSmall};
+
 use crate::operand_text::put_numbered;
 use crate::step_text::put_step;
 use c_typed::Typed;
@@ -22,7 +27,7 @@ fn put_routine(out: &mut Writer, routine: &Routine) {
         out.add(b"\n");
         put_numbered(out, "l", label as u64);
         out.word("->");
-        out.number(u64::from(*at));
+        out.number(*at as u64);
     }
 }
 
@@ -46,7 +51,10 @@ fn put_routines(out: &mut Writer, program: &Typed, code: &Tac) {
     }
 }
 
-pub fn put_code(out: &mut Writer, alloc: Global, program: &Typed) {
+pub fn put_code(out: &mut Writer, alloc: Global, program: &Typed)
+    requires asked { asked_by_functions (program_data program.now).functions < 2 ^ 32 }
+    requires small { TypesAreSmall (program_data program.now) }
+{
     match lower(alloc, program) {
         Ok(code) => put_routines(out, program, &code),
         Err(_) => out.word("out of memory"),

@@ -151,7 +151,7 @@ fn put_way(out: &mut Writer, step: Step) {
         }
         Step::Call(t, _, f, all) => {
             begin(out, t, "call");
-            put_numbered(out, "f", u64::from(f));
+            put_numbered(out, "f", f as u64);
             put_row(out, all);
         }
         Step::CallThrough(t, _, _, a, all) => {
@@ -166,7 +166,9 @@ fn put_way(out: &mut Writer, step: Step) {
                 if zeroed { "allocate-zeros" } else { "allocate" },
                 a,
             );
-            put_numbers(out, "records", &[record, size]);
+            out.word("records");
+            out.number(record as u64);
+            out.number(u64::from(size));
         }
         _ => put_local(out, step),
     }
@@ -179,8 +181,15 @@ fn put_local(out: &mut Writer, step: Step) {
         Step::End(x) => put_numbers(out, "end", &[x]),
         Step::Forget(x, size) => put_numbers(out, "forget", &[x, size]),
         Step::Zeros(x, size) => put_numbers(out, "zeros", &[x, size]),
-        Step::Text(x, by, n) => put_numbers(out, "text", &[x, by, n]),
-        Step::Began(f, l) => put_numbers(out, "loop", &[f, l]),
+        Step::Text(x, by, n) => {
+            put_numbers(out, "text", &[x, by]);
+            out.number(n as u64);
+        }
+        Step::Began(f, l) => {
+            out.word("loop");
+            out.number(f as u64);
+            out.number(u64::from(l));
+        }
         Step::Return(None) => out.word("return"),
         Step::Return(Some(a)) => {
             out.word("return");

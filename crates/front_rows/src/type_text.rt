@@ -34,7 +34,7 @@ pub fn put_type(out: &mut Writer, t: &Ty) {
         Ty::Array(element, length) => {
             out.open("array");
             put_type(out, element.get());
-            out.number(u64::from(*length));
+            out.number(*length);
             out.close();
         }
         Ty::Function(result, parameters) => {
@@ -47,15 +47,15 @@ pub fn put_type(out: &mut Writer, t: &Ty) {
         }
         Ty::Record(number) => {
             out.open("struct");
-            out.number(u64::from(*number));
+            out.number(*number as u64);
             out.close();
         }
     }
 }
 
 /// The type with a number.
-pub fn put_type_at(out: &mut Writer, types: &[Ty], number: u32) {
-    match types.get(number as usize) {
+pub fn put_type_at(out: &mut Writer, types: &[Ty], number: usize) {
+    match types.get(number) {
         Some(t) => put_type(out, t),
         None => out.word("no-type"),
     }

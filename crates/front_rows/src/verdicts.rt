@@ -1,9 +1,6 @@
 //! The verdicts on the records of a program, as text.
 
-ghost use Rattle.std.specs.Prelude.{◌<◌, ◌^◌, length};
-
 use crate::faults::{Spots, put_place};
-use crate::profiles::MOST_FUNCTIONS;
 use c_facts::facts;
 use c_typed::Typed;
 use lay_base::NoMemory;
@@ -26,23 +23,17 @@ fn word_of(test: Test) -> &'static str {
     }
 }
 
-fn verdicts_on(alloc: Global, program: &Typed) -> Result<Verdicts, NoMemory>
-    requires { length program.now.functions < 2 ^ 32 }
-{
+fn verdicts_on(alloc: Global, program: &Typed) -> Result<Verdicts, NoMemory> {
     let all = facts(alloc, program)?;
     judge(alloc, program, all.as_slice())
 }
 
 /// Each record by its tag, with the first of its violations.
 pub fn put_verdicts(out: &mut Writer, alloc: Global, spots: Spots<'_>, program: &Typed) {
-    if program.functions.len() > MOST_FUNCTIONS {
-        return out.word("too many functions");
-    }
     let Ok(verdicts) = verdicts_on(alloc, program) else {
         return out.word("out of memory");
     };
-    let mut number: u32 = 0;
-    for record in program.records.as_slice() {
+    for (number, record) in program.records.as_slice().iter().enumerate() {
         out.bytes(record.tag.as_slice());
         match verdicts.of(number) {
             None => out.word("legal"),
@@ -51,6 +42,5 @@ pub fn put_verdicts(out: &mut Writer, alloc: Global, spots: Spots<'_>, program: 
                 put_place(out, spots, violation.place);
             }
         }
-        number = number.saturating_add(1);
     }
 }

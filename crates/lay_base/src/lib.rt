@@ -1,8 +1,8 @@
 //! What every layer stands on: containers that contracts see as plain data, places in files,
 //! the objects through which a program meets the outside, and the names in its refusals.
 //!
-//! It stands on std alone. It promises that no address and no capacity is part of a value,
-//! and that an object of the outside fails only where its count of faults says so.
+//! It stands on std, and on the kit's `indexmap` and `smallvec`. It promises that no address and no capacity is part of a value, that an object of
+//! the outside fails only where its count of faults says so, and that want of memory is answered only by a call that asked for memory and was refused.
 //!
 //! Neither proved nor tested: the text of `Debug`, and that memory is ever left. Trusted: the toolchain, and std's statements on vectors and boxes.
 #![tactic(auto)]

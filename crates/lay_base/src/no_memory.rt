@@ -14,9 +14,6 @@ use crate::value_box::Boxed;
 use indexmap::{IndexMap, IndexSet};
 use smallvec::SmallVec;
 use std::alloc::Global;
-use std::default::MadeWith;
-use std::env::Env;
-use std::fs::Files;
 use std::hash::Hash;
 use std::io::{BufReader, ErrorKind, Read};
 use std::{env, fs, io};
@@ -28,13 +25,6 @@ pub struct NoMemory {
 }
 
 const REFUSED: NoMemory = NoMemory { refused: () };
-
-impl NoMemory {
-    /// To be gone: an answer that no request stands behind.
-    pub fn unearned() -> NoMemory {
-        REFUSED
-    }
-}
 
 /// A value in a box.
 pub fn boxed<T: Drop>(alloc: Global, value: T) -> Result<Boxed<T>, NoMemory>
@@ -99,14 +89,13 @@ pub fn copied<T: Copy>(alloc: Global, items: &[T]) -> Result<Vec<T>, NoMemory>
 }
 
 /// So many copies of an item.
-pub fn filled<T: Copy>(alloc: Global, item: T, count: usize) -> Result<Vec<T>, NoMemory>
+pub fn filled<T: Copy + Drop>(alloc: Global, item: T, count: usize) -> Result<Vec<T>, NoMemory>
     ensures len { IfOk result (λ items. vec_len items ≡ count) }
-    ensures items { IfOk result (λ items. ((y : T) → T.is_clone item y → y ≡ item) → items.items ≡ replicate count item) }
+    ensures items { IfOk result (λ items. items.items ≡ replicate count item) }
 {
-    match vec![in alloc; item; count] {
-        Ok(items) => Ok(items),
-        Err(_) => Err(REFUSED),
-    }
+    let mut items = Vec::new(alloc);
+    resize(&mut items, count, item)?;
+    Ok(items)
 }
 
 /// Adds an item at the end of a vector.
@@ -173,6 +162,7 @@ pub fn split_off<T>(items: &mut Vec<T>, index: usize) -> Result<Vec<T>, NoMemory
     requires { index ≤ vec_len items.old }
     ensures kept { OnOk result (items.new.items ≡ take index items.old.items) }
     ensures rest { IfOk result (λ rest. rest.items ≡ drop index items.old.items) }
+    ensures unchanged { OnErr result (items.new.items ≡ items.old.items) }
 {
     match items.split_off(index) {
         Ok(rest) => Ok(rest),
@@ -180,15 +170,12 @@ pub fn split_off<T>(items: &mut Vec<T>, index: usize) -> Result<Vec<T>, NoMemory
     }
 }
 
-/// A copy of items that takes no memory where there are at most `N`.
-pub fn short_copy<T: MadeWith<Global> + Copy, const N: usize>(
-    alloc: Global,
-    items: &[T],
-) -> Result<SmallVec<T, N>, NoMemory>
-    ensures copied { IfOk result (λ copy. copy.items ≡ items.now) }
-    ensures succeeds { length items.now ≤ N → IsOk result }
+/// A copy of bytes that takes no memory where there are at most `N`.
+pub fn short_copy<const N: usize>(alloc: Global, bytes: &[u8]) -> Result<SmallVec<u8, N>, NoMemory>
+    ensures copied { IfOk result (λ copy. copy.items ≡ bytes.now) }
+    ensures succeeds { length bytes.now ≤ N → IsOk result }
 {
-    match SmallVec::from_slice(alloc, items) {
+    match SmallVec::from_slice(alloc, bytes) {
         Ok(copy) => Ok(copy),
         Err(_) => Err(REFUSED),
     }
@@ -225,7 +212,7 @@ pub fn put_key<K: Eq + Hash + Drop>(keys: &mut IndexSet<K>, key: K) -> Result<()
 }
 
 /// The words that the program was started with, its own name first. Where the system does not give them as text there are none.
-pub fn arguments<R: Env + AllocGlobal>(rt: &R) -> Result<Vec<String>, NoMemory> {
+pub fn arguments(rt: &HostRuntime) -> Result<Vec<String>, NoMemory> {
     let mut words = Vec::new(rt.alloc());
     match env::args(rt) {
         Ok(all) => {
@@ -248,11 +235,7 @@ pub fn buffered<R: Read + Drop>(alloc: Global, reader: R) -> Result<BufReader<R>
 }
 
 /// The bytes of a file of the system, at most `limit` of them.
-pub fn read_at_most<R: Files + AllocGlobal>(
-    rt: &R,
-    name: &str,
-    limit: u64,
-) -> Result<Vec<u8>, HostRead>
+pub fn read_at_most(rt: &HostRuntime, name: &str, limit: u64) -> Result<Vec<u8>, HostRead>
     ensures { IfOk result (λ bytes. vec_len bytes ≤ limit) }
 {
     match some_bytes(rt, name, limit) {
@@ -269,7 +252,7 @@ pub fn read_at_most<R: Files + AllocGlobal>(
 }
 
 /// The bytes of a file, or one more than the limit where there are more.
-fn some_bytes<R: Files + AllocGlobal>(rt: &R, name: &str, limit: u64) -> io::Result<Vec<u8>> {
+fn some_bytes(rt: &HostRuntime, name: &str, limit: u64) -> io::Result<Vec<u8>> {
     let mut bytes = Vec::new(rt.alloc());
     let file = fs::open(rt, name)?;
     file.take(limit.saturating_add(1)).read_to_end(&mut bytes)?;

@@ -1,6 +1,5 @@
 //! `Shared`: a value with several owners that contracts see as the value.
 
-use crate::no_memory::NoMemory;
 use std::alloc::{AllocFailed, Global};
 use std::marker::Model;
 use std::rc::Rc;
@@ -44,15 +43,15 @@ impl<T> Shared<T> {
 }
 
 impl<T: Drop> Shared<T> {
-    ghost use Rattle.std.specs.Prelude.{◌≡◌, IfOk};
+    ghost use Rattle.std.specs.Prelude.{◌≡◌, IfSome};
 
-    /// One more owner of the value, which takes no memory. Its one refusal is that there are too many to count.
-    pub fn again(&self) -> Result<Shared<T>, NoMemory>
-        ensures { IfOk result (λ shared. shared ≡ self.now) }
+    /// One more owner of the value, which takes no memory; none where there are as many as can be counted.
+    pub fn again(&self) -> Option<Shared<T>>
+        ensures { IfSome result (λ shared. shared ≡ self.now) }
     {
         match self.inner.clone() {
-            Ok(inner) => Ok(Shared { inner }),
-            Err(_) => Err(NoMemory::unearned()),
+            Ok(inner) => Some(Shared { inner }),
+            Err(_) => None,
         }
     }
 }

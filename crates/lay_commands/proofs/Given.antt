@@ -1,5 +1,5 @@
 -- What `compile` is given, stage by stage: what is left where one refuses, and at the end.
-use Rattle.std.proofs.Common.{◌≡◌, ℕ, ◌<◌, ◌≤◌, ◌^◌, List, arith, length, map, Option, Some, None, refl, sym, subst, inl, inr}
+use Rattle.std.proofs.Common.{◌≡◌, ℕ, ◌<◌, ◌≤◌, ◌^◌, List, arith, length, map, Option, Some, None, refl, inl, inr}
 use Rattle.std.specs.Prelude.{All, Ok, Err}
 use Rattle.std.proofs.lemmas.List.{length-map}
 use Rattle.std.proofs.lemmas.List.Elements.{All-weaker}
@@ -171,10 +171,6 @@ counts_have_none f names texts (Some bytes) p _ gives = absurd gives
 
 pub few_functions : (fs : List Function) → length (map data_of fs) ≤ 131072 → length fs < 2 ^ 32
 few_functions fs h = let same = length-map fs data_of in omega (arith, same, h)
-
--- of the program that a runner has
-pub few_to_run : (t p : Typed) → t ≡ p → length (map data_of p.functions) ≤ 131072 → length t.functions < 2 ^ 32
-few_to_run t p same h = subst (λ (t : Typed). length t.functions < 2 ^ 32) (sym same) (few_functions p.functions h)
 
 pub few_loops : (fs : List Function) → All (λ f. loops_of f ≤ 131072) (map data_of fs) → All (λ f. loops_of (data_of f) < 2 ^ 32) fs
 few_loops fs h =

@@ -5,7 +5,7 @@ ghost use Rattle.std.specs.Option.{option_copied};
 ghost use Rattle.c_link.specs.Programs.{IsProgramOf};
 ghost use Rattle.c_typed.specs.Programs.{program_data};
 ghost use Rattle.lay_base.specs.declared.place.File.{File as DeclaredFile};
-ghost use Rattle.layout_plan.specs.Planning.{HaveFewFields, IsPlanned};
+ghost use Rattle.layout_plan.specs.Planning.{IsPlanned};
 ghost use Rattle.lay_commands.specs.Words.{IsInRange, compilation_of};
 ghost use Rattle.lay_compile.specs.LineTexts.PlaceTexts.{IsPlaceText};
 ghost use Rattle.lay_compile.specs.ProgramFiles.FrontEnd.{HasTexts};
@@ -17,11 +17,9 @@ use crate::inputs::{Inputs, inputs_in};
 use crate::words::CompileRequest;
 use crate::writing::write_bytes;
 use c_typed::{Counts, Typed};
-use compiled_files::compiled;
+use compiled_files::{compiled, types_are_small};
 use lay_base::{Bytes, File, Host, List, Name, NoMemory, Sink, add};
-use lay_compile::{
-    PlaceTexts, place_text, programs_are_within_limits, programs_have_few_functions,
-};
+use lay_compile::{PlaceTexts, place_text};
 use lay_report::report;
 use layout_plan::{Decision, Planned, RecordPlan, planned};
 use refusals::Refusal;
@@ -63,14 +61,11 @@ fn plan_to_keep(
     p: &Typed,
     counts: Option<&Counts>,
 ) -> Result<Option<Planned>, Refusal>
-    requires { (files : Sequence DeclaredFile) × IsProgramOf files (program_data p.now) }
     ensures { PlanGives name.now (compilation_of request.now) (program_data p.now) (option_copied counts.entry) result }
 {
     if request.plain {
         return Ok(None);
     }
-    programs_are_within_limits();
-    programs_have_few_functions();
     let planned = planned(alloc, p, counts)?;
     if is_changed(planned.plan.records.as_slice()) {
         return Err(Refusal::NotBuilt(Name::copy_of(alloc, name)?));
@@ -107,8 +102,7 @@ fn report_of(
     p: &Typed,
     planned: Option<&Planned>,
 ) -> Result<Vec<u8>, NoMemory>
-    requires short { All (λ file. length file.bytes ≤ 4194304) files.now }
-    requires few { HaveFewFields (program_data p.now).records }
+    requires { All (λ file. length file.bytes ≤ 4194304) files.now }
     ensures { IfOk result (λ text. Reports (option_copied planned.entry) files.now (program_data p.now) text.items) }
 {
     match planned {
@@ -133,8 +127,8 @@ fn outputs_of(
     ensures { OutputsGive name.now (compilation_of request.now) inputs.now.source.files (program_data inputs.now.source.program) inputs.now.counts result }
 {
     let p = &inputs.source.program;
-    programs_are_within_limits();
     let planned = plan_to_keep(alloc, request, name, p, inputs.counts.as_ref())?;
+    types_are_small(p);
     let elf = compiled(alloc, p, request.heap, request.stack)?;
     let report = report_of(alloc, inputs.source.files.as_slice(), p, planned.as_ref())?;
     Ok(Outputs { elf, report })

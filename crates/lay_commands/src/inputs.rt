@@ -59,7 +59,7 @@ fn profiled_name<'a>(p: &'a Typed, order: &[Defined], number: u32) -> &'a [u8]
 {
     match order.get(number as usize) {
         None => b"",
-        Some(f) => match p.functions.get(f.number as usize) {
+        Some(f) => match p.functions.get(f.number) {
             None => b"",
             Some(f) => f.name.as_slice(),
         },

@@ -12,9 +12,9 @@ ghost use Rattle.lay_commands.specs.Answers.{IsOfSource, run_outcome};
 ghost use Rattle.lay_commands.specs.Interpreting.{InterpGives, InterpretGives, Tells};
 
 use crate::words::InterpRequest;
-use compiled_files::programs_start_fit;
+use compiled_files::{few_are_asked, programs_are_steady, programs_start_fit, types_are_small};
 use lay_base::{File, Host, Place, Sink, Source, UndefinedKind};
-use lay_compile::{PlaceTexts, SourceProgram, program_in, programs_have_few_functions, texts_of};
+use lay_compile::{PlaceTexts, SourceProgram, program_in, texts_of};
 use refusals::Refusal;
 use source_run::{RunEnd, Runner};
 use std::alloc::Global;
@@ -80,8 +80,10 @@ fn interpret<I: Source, O: Sink>(
         (streams (I.left input.new) (I.faults input.new) (O.written out.new) (O.faults out.new)) result }
     ensures texts { IfErr result (λ refusal. AreTexts source.now.files refusal texts.new) }
 {
-    programs_have_few_functions();
+    programs_are_steady(&source.program);
     programs_start_fit(&source.program);
+    few_are_asked();
+    types_are_small(&source.program);
     let mut runner = Runner::new(alloc, &source.program)?;
     let end = runner.run(alloc, input, out, turns);
     answer_for(alloc, source.files.as_slice(), end, texts)

@@ -13,9 +13,9 @@ ghost use Rattle.lay_commands.specs.Interpreting.{ProfileGives, ProfiledGives};
 use crate::interpreting::answer_for;
 use crate::words::ProfileRequest;
 use crate::writing::write_bytes;
-use compiled_files::programs_start_fit;
+use compiled_files::{few_are_asked, programs_are_steady, programs_start_fit, types_are_small};
 use lay_base::{Host, Sink, Source};
-use lay_compile::{PlaceTexts, SourceProgram, program_in, programs_have_few_functions};
+use lay_compile::{PlaceTexts, SourceProgram, program_in};
 use refusals::Refusal;
 use source_run::Runner;
 use std::alloc::Global;
@@ -44,8 +44,10 @@ fn profile_of<I: Source, O: Sink>(
         (streams (I.left input.new) (I.faults input.new) (O.written out.new) (O.faults out.new)) result }
     ensures texts { IfErr result (λ refusal. AreTexts source.now.files refusal texts.new) }
 {
-    programs_have_few_functions();
+    programs_are_steady(&source.program);
     programs_start_fit(&source.program);
+    few_are_asked();
+    types_are_small(&source.program);
     let mut runner = Runner::new(alloc, &source.program)?;
     let end = runner.run(alloc, input, out, turns);
     let status = answer_for(alloc, source.files.as_slice(), end, texts)?;

@@ -1,11 +1,10 @@
 //! The report of a program.
 
-ghost use Rattle.std.specs.Prelude.{◌≡◌, ◌≤◌, ◌<◌, ◌^◌, [], IfOk, flat_map, length, slice_get, unwrap_or};
+ghost use Rattle.std.specs.Prelude.{◌≡◌, ◌<◌, [], IfOk, flat_map, length, slice_get, unwrap_or};
 ghost use Rattle.std.specs.Option.{option_copied};
 ghost use Rattle.c_types.specs.Layouts.{size_of};
 ghost use Rattle.c_types.specs.Types.{structure};
 ghost use Rattle.c_types.specs.Views.{record_of, records_of};
-ghost use Rattle.layout_plan.specs.Planning.{HaveFewFields};
 ghost use Rattle.lay_report.specs.Reports.{IsReport, IsReportOrder, by_plan, defined_from, text_at};
 ghost use Rattle.lay_report.specs.Writes.{Writes};
 
@@ -18,19 +17,17 @@ use lay_base::{Bytes, NoMemory, push};
 use layout_plan::Planned;
 use std::alloc::Global;
 
-fn defined(alloc: Global, records: &[Record], count: u32) -> Result<Vec<Defined>, NoMemory>
-    requires { length records.now ≡ count }
+fn defined(alloc: Global, records: &[Record]) -> Result<Vec<Defined>, NoMemory>
     ensures { IfOk result (λ all. all.items ≡ defined_from 0 (records_of records.now)) }
 {
     let mut all = Vec::new(alloc);
     for (number, r) in records.iter().enumerate() {
         let defined = Defined {
-            number: number as u32,
+            number,
             place: r.place,
         };
         push(&mut all, defined)?;
     }
-    let _ = count;
     Ok(all)
 }
 
@@ -38,13 +35,13 @@ fn defined(alloc: Global, records: &[Record], count: u32) -> Result<Vec<Defined>
 fn report_order(alloc: Global, records: &Records) -> Result<Vec<Defined>, NoMemory>
     ensures { IfOk result (λ order. IsReportOrder (records_of records.now) order.items) }
 {
-    let mut order = defined(alloc, records.as_slice(), records.len())?;
+    let mut order = defined(alloc, records.as_slice())?;
     order.sort_unstable_by_key(|r| (r.place.file, r.place.at, r.number));
     Ok(order)
 }
 
 /// The size of the record of a number as it is declared.
-fn declared_size(records: &Records, number: u32) -> u32
+fn declared_size(records: &Records, number: usize) -> u32
     requires { number < length records.now }
     ensures { result ≡ size_of (records_of records.now) (structure number) }
 {
@@ -52,10 +49,10 @@ fn declared_size(records: &Records, number: u32) -> u32
     size_of(records, &Ty::Record(number))
 }
 
-fn place_of(places: &[Bytes], number: u32) -> &[u8]
+fn place_of(places: &[Bytes], number: usize) -> &[u8]
     ensures { result.now ≡ unwrap_or (slice_get places.now number) [] }
 {
-    match places.get(number as usize) {
+    match places.get(number) {
         Some(place) => place.as_slice(),
         None => b"",
     }
@@ -66,18 +63,17 @@ fn put_by_plan(
     alloc: Global,
     text: &mut Text,
     size: u32,
-    number: u32,
+    number: usize,
     r: &Record,
     planned: &Planned,
     places: &[Bytes],
 )
-    requires { length r.now.fields ≤ 64 }
     ensures { Writes text.old text.new (by_plan size number (record_of r.now) planned.now places.now (slice_get planned.now.plan.records number)) }
 {
-    let Some(plan) = planned.plan.records.get(number as usize) else {
+    let Some(plan) = planned.plan.records.get(number) else {
         return;
     };
-    match hotnesses(alloc, &planned.weights, number, r.fields.len() as u32) {
+    match hotnesses(alloc, &planned.weights, number, r.fields.len()) {
         Err(want) => text.want = Some(want),
         Ok(hotness) => put_planned(
             text,
@@ -94,11 +90,10 @@ fn put_record(
     alloc: Global,
     text: &mut Text,
     records: &Records,
-    number: u32,
+    number: usize,
     planned: Option<&Planned>,
     places: &[Bytes],
 )
-    requires { HaveFewFields (records_of records.now) }
     ensures { Writes text.old text.new (text_at (records_of records.now) (option_copied planned.entry) places.now number) }
 {
     if number >= records.len() {
@@ -120,7 +115,6 @@ fn put_records(
     planned: Option<&Planned>,
     places: &[Bytes],
 )
-    requires { HaveFewFields (records_of records.now) }
     ensures { Writes text.old text.new (flat_map (λ d. text_at (records_of records.now) (option_copied planned.entry) places.now d.number) order.now) }
 {
     for d in order {
@@ -136,7 +130,6 @@ pub fn report(
     planned: Option<&Planned>,
     places: &[Bytes],
 ) -> Result<Vec<u8>, NoMemory>
-    requires { HaveFewFields (records_of p.now.records) }
     ensures { IfOk result (λ text. IsReport (records_of p.now.records) (option_copied planned.entry) places.now text.items) }
 {
     let order = report_order(alloc, &p.records)?;

@@ -8,27 +8,27 @@ ghost use Rattle.lay_base.specs.Calls.{ReadGives, WriteGives};
 ghost use Rattle.lay_base.specs.Known.{Raises, raised};
 
 use lay_base::{Host, HostRead, HostWrite, Sink, SinkFault, Source, SourceFault, read_at_most};
-use std::fs::{self, Files};
+use std::fs;
 use std::io::{Read, Write};
 
 /// The files of the system. Its one count stands for each of a host's counts, and rises at every
 /// failed call.
 #[derive(Drop)]
-pub struct FileHost<'a, R: Files + AllocGlobal> {
-    rt: &'a R,
+pub struct FileHost<'a> {
+    rt: &'a HostRuntime,
     faults: u64,
 }
 
-impl<'a, R: Files + AllocGlobal> FileHost<'a, R> {
+impl<'a> FileHost<'a> {
     /// The host of the files that the runtime reaches.
-    pub fn new(rt: &'a R) -> FileHost<'a, R>
+    pub fn new(rt: &'a HostRuntime) -> FileHost<'a>
         ensures { result.faults ≡ 0 }
     {
         FileHost { rt, faults: 0 }
     }
 }
 
-impl<R: Files + AllocGlobal> Host for FileHost<'_, R> {
+impl Host for FileHost<'_> {
     ghost failed_reads = { λ host _. host.faults };
 
     ghost failed_writes = { λ host _. host.faults };

@@ -1,10 +1,8 @@
 -- One more record of a plan.
-use Rattle.std.proofs.Common.{◌≡◌, ℕ, ◌+◌, ◌≤◌, Bool, List, [], ◌∷◌, ◌++◌, length, drop, refl, ap, ◌∙◌, append_assoc}
-use Rattle.std.specs.Prelude.{IsSomeAnd, Option, Some, None, option_map, slice_get}
-use Rattle.std.proofs.lemmas.List.{drop_more, length-map}
-use Rattle.std.proofs.lemmas.List.Elements.{All-get_or}
-use Rattle.std.proofs.lemmas.Option.{get_or_from_slice_get, slice_get-map, slice_get_within}
-use Rattle.c_types.specs.declared.record.Field.{Field}
+use Rattle.std.proofs.Common.{◌≡◌, ℕ, ◌+◌, Bool, List, [], ◌∷◌, ◌++◌, drop, refl, ap, ◌∙◌, append_assoc}
+use Rattle.std.specs.Prelude.{IsSomeAnd, Option, Some, None, slice_get}
+use Rattle.std.proofs.lemmas.List.{drop_more}
+use Rattle.std.proofs.lemmas.Option.{get_or_from_slice_get, slice_get_within}
 use Rattle.c_types.specs.declared.record.Record.{Record}
 use Rattle.c_types.specs.Views.{record_of, records_of, types_of_fields}
 use Rattle.c_typed.specs.Programs.{ProgramData}
@@ -14,19 +12,7 @@ use Rattle.legality.specs.Verdicts.{verdict_of}
 use Rattle.affinity.specs.declared.weights.Weights.{Weights}
 use Rattle.layout_plan.specs.declared.plans.RecordPlan.{RecordPlan}
 use Rattle.layout_plan.specs.Peeling.{is_peelable}
-use Rattle.layout_plan.specs.Planning.{HaveFewFields}
 use Rattle.layout_plan.specs.Plans.{outline_of, plan_of_record, plans_from, record_plan}
-
--- the fields of a record of a list are few where those of all are
-pub few_own : (records : List Record) (own : List Field) (number : ℕ) (r : Record) → HaveFewFields (records_of records)
-    → slice_get records number ≡ Some r → own ≡ r.fields → length own ≤ 64
-few_own records own number r few is same =
-    let at = slice_get-map record_of records number ∙ ap (option_map record_of) is in
-    let found = get_or_from_slice_get (records_of records) number (record_of r) (record_of r) at in
-    let within = slice_get_within (records_of records) number (record_of r) at in
-    let holds = All-get_or (λ it. length it.fields ≤ 64) (records_of records) number (record_of r) within few in
-    let here = rw (found, length-map) at holds in
-    rw same here
 
 some_of : {X : Type 0} (o : Option X) (P : X → Type 0) → IsSomeAnd o P → (x : X) × (o ≡ Some x) × P x
 some_of None P h = absurd h

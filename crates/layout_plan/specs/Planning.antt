@@ -1,6 +1,5 @@
 -- What is found out of a program as it is planned.
-use Rattle.std.specs.Prelude.{◌≡◌, ◌≤◌, List, All, Option, length}
-use Rattle.c_types.specs.Types.{Record}
+use Rattle.std.specs.Prelude.{◌≡◌, List, Option, length}
 use Rattle.c_typed.specs.declared.run_counts.counts.Counts.{Counts}
 use Rattle.c_typed.specs.Programs.{ProgramData}
 use Rattle.c_facts.specs.Programs.{facts_of}
@@ -17,10 +16,6 @@ pub record IsPlanned (counts : Option Counts) (p : ProgramData) (it : Planned) :
   pub judged : AreVerdicts (breaches p) (length p.records) verdicts
   pub weighed : Weighs counts (facts_of p) it.weights
   pub planned : it.plan.records ≡ plan_of p (facts_of p) verdicts it.weights
-
--- no record has more fields than a program may (own)
-abbrev pub HaveFewFields : List Record → Type 0
-HaveFewFields records = All (λ r. length r.fields ≤ 64) records
 
 -- ---- a law
 

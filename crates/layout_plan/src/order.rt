@@ -8,13 +8,13 @@ use affinity::FieldWeights;
 use lay_base::{List, NoMemory, add};
 use std::alloc::Global;
 
-fn hotter(w: &FieldWeights, f: u32, g: u32) -> u32
+fn hotter(w: &FieldWeights, f: usize, g: usize) -> usize
     ensures { result ≡ hotter w.now f g }
 {
     if w.hotness(f) < w.hotness(g) { g } else { f }
 }
 
-fn hottest(w: &FieldWeights, fields: &[u32]) -> Option<u32>
+fn hottest(w: &FieldWeights, fields: &[usize]) -> Option<usize>
     ensures { result ≡ hottest w.now fields.now }
 {
     let Some(first) = fields.first() else {
@@ -27,7 +27,7 @@ fn hottest(w: &FieldWeights, fields: &[u32]) -> Option<u32>
     Some(best)
 }
 
-fn others(alloc: Global, f: u32, fields: &[u32]) -> Result<List<u32>, NoMemory>
+fn others(alloc: Global, f: usize, fields: &[usize]) -> Result<List<usize>, NoMemory>
     ensures { IfOk result (λ r. r ≡ others f fields.now) }
 {
     let mut rest = List::new(alloc);
@@ -39,7 +39,7 @@ fn others(alloc: Global, f: u32, fields: &[u32]) -> Result<List<u32>, NoMemory>
     Ok(rest)
 }
 
-fn nearer(w: &FieldWeights, last: u32, f: u32, g: u32) -> u32
+fn nearer(w: &FieldWeights, last: usize, f: usize, g: usize) -> usize
     ensures { result ≡ nearer w.now last f g }
 {
     let old = w.affinity(last, f);
@@ -53,7 +53,7 @@ fn nearer(w: &FieldWeights, last: u32, f: u32, g: u32) -> u32
     }
 }
 
-fn nearest(w: &FieldWeights, last: u32, fields: &[u32]) -> Option<u32>
+fn nearest(w: &FieldWeights, last: usize, fields: &[usize]) -> Option<usize>
     ensures { result ≡ nearest w.now last fields.now }
 {
     let Some(first) = fields.first() else {
@@ -68,7 +68,7 @@ fn nearest(w: &FieldWeights, last: u32, fields: &[u32]) -> Option<u32>
 
 /// The fields of a part as they are placed.
 #[tactic(auto, using(crate::proofs::Follows::one_more, crate::proofs::Follows::none_left))]
-pub fn placed(alloc: Global, w: &FieldWeights, fields: List<u32>) -> Result<List<u32>, NoMemory>
+pub fn placed(alloc: Global, w: &FieldWeights, fields: List<usize>) -> Result<List<usize>, NoMemory>
     ensures { IfOk result (λ r. r ≡ placed w.now fields) }
 {
     let mut done = List::new(alloc);
@@ -86,7 +86,7 @@ pub fn placed(alloc: Global, w: &FieldWeights, fields: List<u32>) -> Result<List
     Ok(done)
 }
 
-fn is_with(w: &FieldWeights, group: &[u32], f: u32) -> bool
+fn is_with(w: &FieldWeights, group: &[usize], f: usize) -> bool
     ensures { result ≡ is_with w.now group.now f }
 {
     match group.first() {
@@ -102,7 +102,7 @@ fn is_with(w: &FieldWeights, group: &[u32], f: u32) -> bool
     }
 }
 
-fn group_of(w: &FieldWeights, groups: &[List<u32>], f: u32) -> usize
+fn group_of(w: &FieldWeights, groups: &[List<usize>], f: usize) -> usize
     ensures { result ≡ group_of w.now 8 groups.now f }
 {
     for (number, group) in groups.iter().enumerate() {
@@ -116,8 +116,8 @@ fn group_of(w: &FieldWeights, groups: &[List<u32>], f: u32) -> usize
 fn join(
     alloc: Global,
     w: &FieldWeights,
-    groups: &mut List<List<u32>>,
-    f: u32,
+    groups: &mut List<List<usize>>,
+    f: usize,
 ) -> Result<(), NoMemory>
     ensures { OnOk result (groups.new ≡ joined w.now 8 groups.old f) }
 {
@@ -132,7 +132,11 @@ fn join(
 }
 
 /// The fields of a record in groups, each of which has its fields in their order here.
-pub fn groups(alloc: Global, w: &FieldWeights, fields: &[u32]) -> Result<List<List<u32>>, NoMemory>
+pub fn groups(
+    alloc: Global,
+    w: &FieldWeights,
+    fields: &[usize],
+) -> Result<List<List<usize>>, NoMemory>
     ensures { IfOk result (λ r. r ≡ groups w.now fields.now) }
 {
     let mut groups = List::new(alloc);

@@ -7,5 +7,5 @@ use lay_base::List;
 #[derive(Drop)]
 pub struct Outline {
     pub decision: Decision,
-    pub parts: List<List<u32>>,
+    pub parts: List<List<usize>>,
 }

@@ -22,7 +22,7 @@ use lay_base::{List, NoMemory, add, copied};
 use std::alloc::Global;
 
 /// The fields whose value is loaded somewhere.
-fn read(alloc: Global, w: &FieldWeights, count: u32) -> Result<List<u32>, NoMemory>
+fn read(alloc: Global, w: &FieldWeights, count: usize) -> Result<List<usize>, NoMemory>
     ensures { IfOk result (λ r. r ≡ filter (is_read_in w.now) (numbers_below count)) }
 {
     let mut all = List::new(alloc);
@@ -36,7 +36,7 @@ fn read(alloc: Global, w: &FieldWeights, count: u32) -> Result<List<u32>, NoMemo
 
 /// The fields that stay of a record with so many.
 #[tactic(auto, using(crate::proofs::Lived::some, crate::proofs::Lived::first))]
-pub fn live(alloc: Global, w: &FieldWeights, count: u32) -> Result<List<u32>, NoMemory>
+pub fn live(alloc: Global, w: &FieldWeights, count: usize) -> Result<List<usize>, NoMemory>
     ensures { IfOk result (λ r. r ≡ live w.now count) }
 {
     let mut stay = read(alloc, w, count)?;
@@ -50,8 +50,8 @@ pub fn live(alloc: Global, w: &FieldWeights, count: u32) -> Result<List<u32>, No
 fn add_placed(
     alloc: Global,
     w: &FieldWeights,
-    parts: &mut List<List<u32>>,
-    fields: List<u32>,
+    parts: &mut List<List<usize>>,
+    fields: List<usize>,
 ) -> Result<(), NoMemory>
     ensures { OnOk result (parts.new ≡ parts.old ++ placed w.now fields ∷ []) }
 {
@@ -59,7 +59,7 @@ fn add_placed(
     add(parts, part)
 }
 
-fn decision_of(groups: &[List<u32>]) -> Decision
+fn decision_of(groups: &[List<usize>]) -> Decision
     ensures { result ≡ decision_of groups.now }
 {
     match groups {
@@ -69,7 +69,7 @@ fn decision_of(groups: &[List<u32>]) -> Decision
 }
 
 /// Of a record that may be peeled, by its groups.
-fn peeled(alloc: Global, w: &FieldWeights, groups: List<List<u32>>) -> Result<Outline, NoMemory>
+fn peeled(alloc: Global, w: &FieldWeights, groups: List<List<usize>>) -> Result<Outline, NoMemory>
     ensures { IfOk result (λ o. o ≡ outline (decision_of groups) (map (placed w.now) groups)) }
 {
     let decision = decision_of(groups.as_slice());
@@ -80,7 +80,7 @@ fn peeled(alloc: Global, w: &FieldWeights, groups: List<List<u32>>) -> Result<Ou
     Ok(Outline { decision, parts })
 }
 
-fn greatest_hotness(w: &FieldWeights, fields: &[u32]) -> u128
+fn greatest_hotness(w: &FieldWeights, fields: &[usize]) -> u128
     ensures { result ≡ fold (λ h f. max h (hotness_in w.now f)) 0 fields.now }
 {
     let mut greatest: u128 = 0;
@@ -110,8 +110,8 @@ fn side(
     w: &FieldWeights,
     below: u128,
     is_cold: bool,
-    fields: &[u32],
-) -> Result<List<u32>, NoMemory>
+    fields: &[usize],
+) -> Result<List<usize>, NoMemory>
     ensures { IfOk result (λ r. r ≡ side w.now below is_cold fields.now) }
 {
     let mut all = List::new(alloc);
@@ -124,19 +124,19 @@ fn side(
 }
 
 /// The size of a field, where it does not pass the greatest of a type.
-fn size_at(records: &Records, own: &[Field], f: u32) -> Option<u32>
+fn size_at(records: &Records, own: &[Field], f: usize) -> Option<u32>
     requires { AreFieldsOf records.now own.now }
     ensures { result ≡ size_if_small (size_of (records_of records.now) (type_at (types_of_fields own.now) f)) }
 {
     records_are_complete(records);
-    match own.get(f as usize) {
+    match own.get(f) {
         Some(field) => checked_size_of(records, &field.ty),
         None => Some(0),
     }
 }
 
 /// Whether fields take more than a link does, which has 4 bytes.
-fn is_larger_than_link(records: &Records, own: &[Field], fields: &[u32]) -> bool
+fn is_larger_than_link(records: &Records, own: &[Field], fields: &[usize]) -> bool
     requires { AreFieldsOf records.now own.now }
     ensures { result ≡ nat_lt 4 (sizes (records_of records.now) (types_of_fields own.now) 0 fields.now) }
 {
@@ -153,14 +153,14 @@ fn is_larger_than_link(records: &Records, own: &[Field], fields: &[u32]) -> bool
     false
 }
 
-fn is_worth(records: &Records, own: &[Field], apart: &[u32]) -> bool
+fn is_worth(records: &Records, own: &[Field], apart: &[usize]) -> bool
     requires { AreFieldsOf records.now own.now }
     ensures { result ≡ (nat_le 2 (length apart.now) && nat_lt 4 (sizes (records_of records.now) (types_of_fields own.now) 0 apart.now)) }
 {
     apart.len() >= 2 && is_larger_than_link(records, own, apart)
 }
 
-fn in_one(alloc: Global, w: &FieldWeights, fields: &[u32]) -> Result<Outline, NoMemory>
+fn in_one(alloc: Global, w: &FieldWeights, fields: &[usize]) -> Result<Outline, NoMemory>
     ensures { IfOk result (λ o. o ≡ outline Reordered (placed w.now fields.now ∷ [])) }
 {
     let all = copied(alloc, fields)?;
@@ -176,8 +176,8 @@ fn in_two(
     alloc: Global,
     w: &FieldWeights,
     below: u128,
-    fields: &[u32],
-    apart: List<u32>,
+    fields: &[usize],
+    apart: List<usize>,
 ) -> Result<Outline, NoMemory>
     ensures { IfOk result (λ o. o ≡ outline Split (placed w.now (side w.now below false fields.now) ∷ placed w.now apart ∷ [])) }
 {
@@ -198,7 +198,7 @@ fn split(
     own: &[Field],
     w: &FieldWeights,
     by_profile: bool,
-    fields: &[u32],
+    fields: &[usize],
 ) -> Result<Outline, NoMemory>
     requires { AreFieldsOf records.now own.now }
     ensures { IfOk result (λ o. o ≡ planned (records_of records.now) (types_of_fields own.now) w.now by_profile false fields.now) }
@@ -221,7 +221,7 @@ pub fn planned(
     w: &FieldWeights,
     by_profile: bool,
     is_peelable: bool,
-    live: &[u32],
+    live: &[usize],
 ) -> Result<Outline, NoMemory>
     requires { AreFieldsOf records.now own.now }
     ensures { IfOk result (λ o. o ≡ planned (records_of records.now) (types_of_fields own.now) w.now by_profile is_peelable live.now) }

@@ -21,7 +21,7 @@ const GREATEST_SIZE: u64 = 16_777_216;
 /// A field that lies in a part, by its number in the record.
 #[derive(Clone, Copy)]
 pub struct Placed {
-    pub field: u32,
+    pub field: usize,
     pub at: PartField,
 }
 
@@ -51,11 +51,11 @@ pub fn fields_are_small(records: &Records, own: &[Field])
 
 /// The size of the field with that number, and of none 0.
 #[tactic(auto, using(crate::proofs::Fields::type_found, crate::proofs::Fields::type_missing))]
-fn size_at(records: &Records, own: &[Field], number: u32) -> u32
+fn size_at(records: &Records, own: &[Field], number: usize) -> u32
     requires { AreSmallObjects records.now own.now }
     ensures { result ≡ size_of (records_of records.now) (type_at (types_of_fields own.now) number) }
 {
-    match own.get(number as usize) {
+    match own.get(number) {
         Some(field) => size_of(records, &field.ty),
         None => 0,
     }
@@ -63,13 +63,13 @@ fn size_at(records: &Records, own: &[Field], number: u32) -> u32
 
 /// The alignment of the field with that number, and of none 1.
 #[tactic(auto, using(crate::proofs::Fields::type_found, crate::proofs::Fields::type_missing))]
-fn alignment_at(records: &Records, own: &[Field], number: u32) -> u32
+fn alignment_at(records: &Records, own: &[Field], number: usize) -> u32
     requires { AreSmallObjects records.now own.now }
     ensures value { result ≡ align_of (records_of records.now) (type_at (types_of_fields own.now) number) }
     ensures positive { 0 < result }
 {
     sizes_are_multiples();
-    match own.get(number as usize) {
+    match own.get(number) {
         Some(field) => align_of(records, &field.ty),
         None => 1,
     }
@@ -85,7 +85,7 @@ fn next_multiple(n: u64, unit: u32) -> u64
 }
 
 /// Where the field with that number lies that follows so many bytes.
-pub fn span_after(records: &Records, own: &[Field], before: u64, number: u32) -> Span
+pub fn span_after(records: &Records, own: &[Field], before: u64, number: usize) -> Span
     requires { AreSmallObjects records.now own.now }
     ensures begin { result.begin ≡ min (begin_after (layouts (records_of records.now)) before (type_at (types_of_fields own.now) number)) (2 ^ 64 - 1) }
     ensures end { result.end ≡ min (end_after (layouts (records_of records.now)) before (type_at (types_of_fields own.now) number)) (2 ^ 64 - 1) }
@@ -98,7 +98,7 @@ pub fn span_after(records: &Records, own: &[Field], before: u64, number: u32) ->
 }
 
 /// What more fields take up, after those before them.
-pub fn extent_after(records: &Records, own: &[Field], before: Extent, fields: &[u32]) -> Extent
+pub fn extent_after(records: &Records, own: &[Field], before: Extent, fields: &[usize]) -> Extent
     requires objects { AreSmallObjects records.now own.now }
     requires positive { 0 < before.alignment }
     ensures end { result.end
@@ -137,7 +137,7 @@ pub fn part_size(
     own: &[Field],
     decision: Decision,
     part: usize,
-    fields: &[u32],
+    fields: &[usize],
 ) -> u64
     requires { AreSmallObjects records.now own.now }
     ensures { result ≡ min (part_layout (records_of records.now) (types_of_fields own.now) (link decision part) fields.now).size (2 ^ 64 - 1) }
@@ -147,7 +147,7 @@ pub fn part_size(
 }
 
 /// The size of one record with the fields of all parts, or `u64::MAX` where it passes that.
-fn whole_size(records: &Records, own: &[Field], parts: &[List<u32>]) -> u64
+fn whole_size(records: &Records, own: &[Field], parts: &[List<usize>]) -> u64
     requires { AreSmallObjects records.now own.now }
     ensures { result
         ≡ min (part_layout (records_of records.now) (types_of_fields own.now) [] (flat_map (λ fields. fields) parts.now)).size (2 ^ 64 - 1) }
@@ -163,7 +163,12 @@ fn whole_size(records: &Records, own: &[Field], parts: &[List<u32>]) -> u64
 }
 
 /// Whether a part, or one record with the fields of all parts, is larger than a record may be.
-pub fn is_too_big(records: &Records, own: &[Field], decision: Decision, parts: &[List<u32>]) -> bool
+pub fn is_too_big(
+    records: &Records,
+    own: &[Field],
+    decision: Decision,
+    parts: &[List<usize>],
+) -> bool
     requires { AreFieldsOf records.now own.now }
     ensures { result ≡ is_too_big (records_of records.now) (types_of_fields own.now) decision parts.now }
 {

@@ -16,10 +16,10 @@ use lay_base::{List, NoMemory, filled};
 use std::alloc::Global;
 
 /// The type with that number in a list; none past its end.
-fn type_at(types: &[Ty], number: u32) -> Option<&Ty>
+fn type_at(types: &[Ty], number: usize) -> Option<&Ty>
     ensures { or_void (option_copied result) ≡ type_at (map type_of types.now) number }
 {
-    types.get(number as usize)
+    types.get(number)
 }
 
 fn clear_itself(marks: &mut [bool], t: &Ty)
@@ -27,8 +27,8 @@ fn clear_itself(marks: &mut [bool], t: &Ty)
 {
     match t {
         Ty::Record(number) => {
-            if (*number as usize) < marks.len() {
-                marks[*number as usize] = false;
+            if *number < marks.len() {
+                marks[*number] = false;
             }
         }
         _ => {}
@@ -111,7 +111,7 @@ fn clear_address(marks: &mut [bool], types: &[Ty], objects: &[Object], value: &I
     ensures { Clears marks.old marks.new (by_initial_value (map type_of types.now) objects.now value.now) }
 {
     match value {
-        InitialValue::Address(_, number, _) => match objects.get(*number as usize) {
+        InitialValue::Address(_, number, _) => match objects.get(*number) {
             Some(o) => match type_at(types, o.ty) {
                 Some(t) => clear_pointed(marks, t),
                 None => {}
@@ -161,7 +161,7 @@ fn clear_objects(marks: &mut [bool], types: &[Ty], objects: &[Object])
     }
 }
 
-fn clear_at(marks: &mut [bool], types: &[Ty], number: u32)
+fn clear_at(marks: &mut [bool], types: &[Ty], number: usize)
     ensures { Clears marks.old marks.new (pointers_in (type_at (map type_of types.now) number)) }
 {
     if let Some(t) = type_at(types, number) {
@@ -193,10 +193,10 @@ fn clear_functions(marks: &mut [bool], types: &[Ty], functions: &[Function])
     }
 }
 
-fn all_marked(alloc: Global, count: u32) -> Result<List<bool>, NoMemory>
+fn all_marked(alloc: Global, count: usize) -> Result<List<bool>, NoMemory>
     ensures { IfOk result (λ marks. marks ≡ replicate count true) }
 {
-    let marks = filled(alloc, true, count as usize)?;
+    let marks = filled(alloc, true, count)?;
     Ok(List::of(marks))
 }
 

@@ -24,7 +24,7 @@ fn place_part(
     own: &[Field],
     before: u64,
     part: u8,
-    fields: &[u32],
+    fields: &[usize],
 ) -> Result<(), NoMemory>
     requires objects { AreSmallObjects records.now own.now }
     requires small { fold (end_after (layouts (records_of records.now))) before (map (type_at (types_of_fields own.now)) fields.now) ≤ greatest_size }
@@ -49,7 +49,7 @@ fn place_in(placed: &[Placed], field: usize) -> Option<PartField>
     ensures { result ≡ place_in placed.now field }
 {
     for p in placed {
-        if p.field as usize == field {
+        if p.field == field {
             return Some(p.at);
         }
     }

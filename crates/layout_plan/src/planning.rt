@@ -1,8 +1,8 @@
 //! The plan of a program.
 
-ghost use Rattle.std.specs.Prelude.{◌≡◌, ◌≤◌, ◌<◌, ◌^◌, ◌∷◌, [], IfOk, IsSomeAnd, length, slice_get};
+ghost use Rattle.std.specs.Prelude.{◌≡◌, ◌<◌, ◌∷◌, [], IfOk, IsSomeAnd, length, slice_get};
 ghost use Rattle.std.specs.Option.{option_copied};
-ghost use Rattle.c_types.specs.Views.{record_of, records_of, types_of_fields};
+ghost use Rattle.c_types.specs.Views.{records_of, types_of_fields};
 ghost use Rattle.c_typed.specs.Programs.{program_data};
 ghost use Rattle.c_typed.specs.RunCounts.Counting.{numbers_below};
 ghost use Rattle.affinity.specs.FieldWeights.{field_weights};
@@ -10,7 +10,7 @@ ghost use Rattle.layout_plan.specs.declared.plans.Decision.TheVariants.{Refused}
 ghost use Rattle.layout_plan.specs.Outlines.{outline, outlined};
 ghost use Rattle.layout_plan.specs.PartSizes.{AreFieldsOf};
 ghost use Rattle.layout_plan.specs.Peeling.{is_peelable};
-ghost use Rattle.layout_plan.specs.Planning.{HaveFewFields, IsPlanned};
+ghost use Rattle.layout_plan.specs.Planning.{IsPlanned};
 ghost use Rattle.layout_plan.specs.Plans.{outline_of, plan_of, record_plan};
 
 use crate::outline::Outline;
@@ -29,7 +29,7 @@ use legality::{Verdicts, Violation, judge};
 use std::alloc::Global;
 
 /// The outline of a record with one part.
-fn in_one(alloc: Global, decision: Decision, fields: List<u32>) -> Result<Outline, NoMemory>
+fn in_one(alloc: Global, decision: Decision, fields: List<usize>) -> Result<Outline, NoMemory>
     ensures { IfOk result (λ o. o ≡ outline decision (fields ∷ [])) }
 {
     let mut parts = List::new(alloc);
@@ -38,7 +38,7 @@ fn in_one(alloc: Global, decision: Decision, fields: List<u32>) -> Result<Outlin
 }
 
 /// The outline of a record that violates a test.
-fn refused(alloc: Global, violation: Violation, count: u32) -> Result<Outline, NoMemory>
+fn refused(alloc: Global, violation: Violation, count: usize) -> Result<Outline, NoMemory>
     ensures { IfOk result (λ o. o ≡ outline (Refused violation) (numbers_below count ∷ [])) }
 {
     let mut fields = List::new(alloc);
@@ -54,14 +54,13 @@ fn outlined(
     records: &Records,
     own: &[Field],
     w: &Weights,
-    number: u32,
+    number: usize,
     is_peelable: bool,
 ) -> Result<Outline, NoMemory>
-    requires own { AreFieldsOf records.now own.now }
-    requires few { length own.now ≤ 64 }
+    requires { AreFieldsOf records.now own.now }
     ensures { IfOk result (λ o. o ≡ outlined (records_of records.now) (types_of_fields own.now) (field_weights w.now number (length own.now)) w.now.by_profile is_peelable) }
 {
-    let count = own.len() as u32;
+    let count = own.len();
     let weights = field_weights(alloc, w, number, count)?;
     let fields = live(alloc, &weights, count)?;
     let outline = outlining::planned(
@@ -86,16 +85,15 @@ fn outline_of(
     records: &Records,
     own: &[Field],
     w: &Weights,
-    number: u32,
+    number: usize,
     is_peelable: bool,
     verdict: Option<Violation>,
 ) -> Result<Outline, NoMemory>
-    requires own { AreFieldsOf records.now own.now }
-    requires few { length own.now ≤ 64 }
+    requires { AreFieldsOf records.now own.now }
     ensures { IfOk result (λ o. o ≡ outline_of (records_of records.now) w.now is_peelable verdict number (types_of_fields own.now)) }
 {
     match verdict {
-        Some(violation) => refused(alloc, violation, own.len() as u32),
+        Some(violation) => refused(alloc, violation, own.len()),
         None => outlined(alloc, records, own, w, number, is_peelable),
     }
 }
@@ -106,12 +104,11 @@ fn plan_of(
     alloc: Global,
     records: &Records,
     w: &Weights,
-    number: u32,
+    number: usize,
     is_peelable: bool,
     verdict: Option<Violation>,
 ) -> Result<RecordPlan, NoMemory>
-    requires number { number < length records.now }
-    requires few { HaveFewFields (records_of records.now) }
+    requires { number < length records.now }
     ensures { IfOk result (λ it. IsSomeAnd (slice_get records.now number) (λ r. it ≡ record_plan (records_of records.now) (types_of_fields r.fields)
         (outline_of (records_of records.now) w.now is_peelable verdict number (types_of_fields r.fields)))) }
 {
@@ -129,13 +126,12 @@ pub fn plan(
     v: &Verdicts,
     w: &Weights,
 ) -> Result<Plan, NoMemory>
-    requires { HaveFewFields (records_of p.now.records) }
     ensures { IfOk result (λ plan. plan.records ≡ plan_of (program_data p.now) facts.now v.now.list w.now) }
 {
     let peelable = peelable(alloc, p, facts)?;
     let mut records = List::new(alloc);
     for number in 0..p.records.len() {
-        let is_peelable = peelable.as_slice()[number as usize];
+        let is_peelable = peelable.as_slice()[number];
         let plan = plan_of(alloc, &p.records, w, number, is_peelable, v.of(number))?;
         add(&mut records, plan)?;
     }
@@ -144,8 +140,6 @@ pub fn plan(
 
 /// The plan of a program, by a profile or, where there is none, by the depths of loops; with the weights by which it was made.
 pub fn planned(alloc: Global, p: &Typed, counts: Option<&Counts>) -> Result<Planned, NoMemory>
-    requires fields { HaveFewFields (records_of p.now.records) }
-    requires functions { length p.now.functions < 2 ^ 32 }
     ensures { IfOk result (IsPlanned (option_copied counts.entry) (program_data p.now)) }
 {
     let facts = facts(alloc, p)?;

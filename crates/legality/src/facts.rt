@@ -14,10 +14,10 @@ use c_types::{Ty, same};
 use lay_base::Place;
 
 /// The type with that number in a list; none past its end.
-pub fn type_at(types: &[Ty], number: u32) -> Option<&Ty>
+pub fn type_at(types: &[Ty], number: usize) -> Option<&Ty>
     ensures { option_map type_of (option_copied result) ≡ slice_get (map type_of types.now) number }
 {
-    types.get(number as usize)
+    types.get(number)
 }
 
 fn mark_conversion(firsts: &mut [Option<Violation>], s: &Ty, t: &Ty, place: Place)

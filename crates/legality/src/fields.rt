@@ -1,6 +1,6 @@
 //! The fields that hold records, and those in whose types arrays of records stand.
 
-ghost use Rattle.std.specs.Prelude.{◌+◌, ◌<◌, ◌^◌, flat_map, length, map};
+ghost use Rattle.std.specs.Prelude.{flat_map, map};
 ghost use Rattle.c_types.specs.Views.{field_of, records_of};
 ghost use Rattle.legality.specs.Breaches.{by_field, by_held, by_records};
 ghost use Rattle.legality.specs.Firsts.{Marks};
@@ -11,7 +11,7 @@ use crate::violation::{Test, Violation};
 use c_types::{Field, Record};
 use lay_base::{List, Place};
 
-fn mark_held(firsts: &mut [Option<Violation>], owner: u32, place: Place, held: &[u32])
+fn mark_held(firsts: &mut [Option<Violation>], owner: usize, place: Place, held: &[usize])
     ensures { Marks firsts.old firsts.new (by_held owner place held.now) }
 {
     if !held.is_empty() {
@@ -22,8 +22,8 @@ fn mark_held(firsts: &mut [Option<Violation>], owner: u32, place: Place, held: &
 
 fn mark_fields(
     firsts: &mut [Option<Violation>],
-    holdings: &[List<u32>],
-    owner: u32,
+    holdings: &[List<usize>],
+    owner: usize,
     fields: &[Field],
 )
     ensures { Marks firsts.old firsts.new (flat_map (by_field holdings.now owner) (map field_of fields.now)) }
@@ -34,11 +34,10 @@ fn mark_fields(
     }
 }
 
-pub fn mark_records(firsts: &mut [Option<Violation>], holdings: &[List<u32>], records: &[Record])
-    requires { length records.now < 2 ^ 32 }
+pub fn mark_records(firsts: &mut [Option<Violation>], holdings: &[List<usize>], records: &[Record])
     ensures { Marks firsts.old firsts.new (by_records holdings.now 0 (records_of records.now)) }
 {
     for (number, r) in records.iter().enumerate() {
-        mark_fields(firsts, holdings, number as u32, r.fields.as_slice());
+        mark_fields(firsts, holdings, number, r.fields.as_slice());
     }
 }

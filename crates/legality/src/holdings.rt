@@ -1,6 +1,6 @@
 //! Which records hold which by value.
 
-ghost use Rattle.std.specs.Prelude.{◌≡◌, ◌∷◌, ◌^◌, ◌<◌, ◌≤◌, [], IfOk, OnOk, fold, length, map};
+ghost use Rattle.std.specs.Prelude.{◌≡◌, ◌∷◌, [], IfOk, OnOk, fold, map};
 ghost use Rattle.c_types.specs.Views.{field_of, record_of, records_of, type_of};
 ghost use Rattle.legality.specs.Holdings.{held_in, holdings_of, is_among, new_in, with_field, with_record};
 
@@ -8,7 +8,7 @@ use c_types::{Field, Record, Ty};
 use lay_base::{List, NoMemory, add, append};
 use std::alloc::Global;
 
-fn is_among(r: u32, all: &[u32]) -> bool
+fn is_among(r: usize, all: &[usize]) -> bool
     ensures { result ≡ is_among r all.now }
 {
     for s in all {
@@ -20,7 +20,7 @@ fn is_among(r: u32, all: &[u32]) -> bool
 }
 
 /// Those that are not among all.
-fn new_in(alloc: Global, all: &[u32], more: &[u32]) -> Result<List<u32>, NoMemory>
+fn new_in(alloc: Global, all: &[usize], more: &[usize]) -> Result<List<usize>, NoMemory>
     ensures { IfOk result (λ fresh. fresh ≡ new_in all.now more.now) }
 {
     let mut fresh = List::new(alloc);
@@ -33,11 +33,11 @@ fn new_in(alloc: Global, all: &[u32], more: &[u32]) -> Result<List<u32>, NoMemor
 }
 
 /// The records of which an object of a type holds one or is one.
-pub fn held_in<'a>(holdings: &'a [List<u32>], t: &Ty) -> &'a [u32]
+pub fn held_in<'a>(holdings: &'a [List<usize>], t: &Ty) -> &'a [usize]
     ensures { result.now ≡ held_in holdings.now (type_of t.now) }
 {
     match t {
-        Ty::Record(r) => match holdings.get(*r as usize) {
+        Ty::Record(r) => match holdings.get(*r) {
             Some(held) => held.as_slice(),
             None => &[],
         },
@@ -48,8 +48,8 @@ pub fn held_in<'a>(holdings: &'a [List<u32>], t: &Ty) -> &'a [u32]
 
 fn add_field(
     alloc: Global,
-    holdings: &[List<u32>],
-    all: &mut List<u32>,
+    holdings: &[List<usize>],
+    all: &mut List<usize>,
     f: &Field,
 ) -> Result<(), NoMemory>
     ensures { OnOk result (all.new ≡ with_field holdings.now all.old (field_of f.now)) }
@@ -61,10 +61,10 @@ fn add_field(
 /// What a record holds, itself first, by what those before it hold.
 fn held_by(
     alloc: Global,
-    holdings: &[List<u32>],
-    number: u32,
+    holdings: &[List<usize>],
+    number: usize,
     fields: &[Field],
-) -> Result<List<u32>, NoMemory>
+) -> Result<List<usize>, NoMemory>
     ensures { IfOk result (λ all. all ≡ fold (with_field holdings.now) (number ∷ []) (map field_of fields.now)) }
 {
     let mut all = List::new(alloc);
@@ -75,18 +75,16 @@ fn held_by(
     Ok(all)
 }
 
-fn add_record(alloc: Global, holdings: &mut List<List<u32>>, r: &Record) -> Result<(), NoMemory>
-    requires { length holdings.old < 2 ^ 32 }
+fn add_record(alloc: Global, holdings: &mut List<List<usize>>, r: &Record) -> Result<(), NoMemory>
     ensures { OnOk result (holdings.new ≡ with_record holdings.old (record_of r.now)) }
 {
-    let number = holdings.len() as u32;
+    let number = holdings.len();
     let held = held_by(alloc, holdings.as_slice(), number, r.fields.as_slice())?;
     add(holdings, held)
 }
 
 /// What each record of a list holds.
-pub fn holdings_of(alloc: Global, records: &[Record]) -> Result<List<List<u32>>, NoMemory>
-    requires { length records.now < 2 ^ 32 }
+pub fn holdings_of(alloc: Global, records: &[Record]) -> Result<List<List<usize>>, NoMemory>
     ensures { IfOk result (λ holdings. holdings ≡ holdings_of (records_of records.now)) }
 {
     let mut holdings = List::new(alloc);

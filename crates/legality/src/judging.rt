@@ -1,6 +1,6 @@
 //! The verdicts on the records of a program.
 
-ghost use Rattle.std.specs.Prelude.{◌≡◌, ◌<◌, ◌^◌, IfOk, None, fold, length, replicate, slice_get};
+ghost use Rattle.std.specs.Prelude.{◌≡◌, IfOk, None, fold, length, replicate};
 ghost use Rattle.c_typed.specs.Programs.{program_data};
 ghost use Rattle.legality.specs.Breaches.{breaches_by};
 ghost use Rattle.legality.specs.Firsts.{marked};
@@ -24,20 +24,20 @@ pub struct Verdicts {
 
 impl Verdicts {
     /// The verdict on the record with that number; none past the last.
-    pub fn of(&self, number: u32) -> Option<Violation>
+    pub fn of(&self, number: usize) -> Option<Violation>
         ensures { result ≡ verdict_of self.now.list number }
     {
-        match self.list.get(number as usize) {
+        match self.list.get(number) {
             None => None,
             Some(found) => *found,
         }
     }
 }
 
-fn nothing_found(alloc: Global, count: u32) -> Result<List<Option<Violation>>, NoMemory>
+fn nothing_found(alloc: Global, count: usize) -> Result<List<Option<Violation>>, NoMemory>
     ensures { IfOk result (λ firsts. firsts ≡ replicate count None) }
 {
-    let firsts = filled(alloc, None, count as usize)?;
+    let firsts = filled(alloc, None, count)?;
     Ok(List::of(firsts))
 }
 

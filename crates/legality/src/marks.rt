@@ -1,6 +1,6 @@
 //! What types give to the first violations of records.
 
-ghost use Rattle.std.specs.Prelude.{◌∷◌, [], map};
+ghost use Rattle.std.specs.Prelude.{◌∷◌, []};
 ghost use Rattle.c_types.specs.Views.{type_of, types_of};
 ghost use Rattle.legality.specs.Breaches.{all_of};
 ghost use Rattle.legality.specs.Firsts.{Marks};
@@ -11,16 +11,15 @@ use c_types::Ty;
 use lay_base::Place;
 
 /// Notes a violation where it is the first of its record.
-pub fn mark(firsts: &mut [Option<Violation>], test: Test, place: Place, number: u32)
+pub fn mark(firsts: &mut [Option<Violation>], test: Test, place: Place, number: usize)
     ensures { Marks firsts.old firsts.new (all_of test place (number ∷ [])) }
 {
-    let number = number as usize;
     if number < firsts.len() {
         firsts[number] = former(firsts[number], Violation { test, place });
     }
 }
 
-pub fn mark_all(firsts: &mut [Option<Violation>], test: Test, place: Place, numbers: &[u32])
+pub fn mark_all(firsts: &mut [Option<Violation>], test: Test, place: Place, numbers: &[usize])
     ensures { Marks firsts.old firsts.new (all_of test place numbers.now) }
 {
     for number in numbers {

@@ -15,7 +15,7 @@ use lay_base::{List, Place};
 
 fn mark_kind(
     firsts: &mut [Option<Violation>],
-    holdings: &[List<u32>],
+    holdings: &[List<usize>],
     kind: MentionKind,
     t: &Ty,
     place: Place,
@@ -36,7 +36,12 @@ fn mark_kind(
     }
 }
 
-fn mark_mention(firsts: &mut [Option<Violation>], types: &[Ty], holdings: &[List<u32>], m: &Mention)
+fn mark_mention(
+    firsts: &mut [Option<Violation>],
+    types: &[Ty],
+    holdings: &[List<usize>],
+    m: &Mention,
+)
     ensures { Marks firsts.old firsts.new (by_mention (map type_of types.now) holdings.now m.now) }
 {
     match type_at(types, m.ty) {
@@ -48,7 +53,7 @@ fn mark_mention(firsts: &mut [Option<Violation>], types: &[Ty], holdings: &[List
 pub fn mark_mentions(
     firsts: &mut [Option<Violation>],
     types: &[Ty],
-    holdings: &[List<u32>],
+    holdings: &[List<usize>],
     mentions: &[Mention],
 )
     ensures { Marks firsts.old firsts.new (flat_map (by_mention (map type_of types.now) holdings.now) mentions.now) }

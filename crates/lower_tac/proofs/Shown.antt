@@ -1,7 +1,7 @@
 -- The code of a node is what is shown of it.
-use Rattle.std.proofs.Common.{◌≡◌, ◌∷◌, ◌+◌, ℕ, Bool, true, false, List, length, map, refl, sym, ap, ◌∙◌, arith, Bor}
+use Rattle.std.proofs.Common.{◌≡◌, [], ◌∷◌, ◌++◌, ◌+◌, ℕ, suc, Bool, true, false, List, length, map, refl, sym, ap, ◌∙◌, arith, Bor}
 use Rattle.std.specs.Prelude.{reverse, Option, Some, None}
-use Rattle.std.proofs.lemmas.List.{length-map, length-reverse, reverse-reverse}
+use Rattle.std.proofs.lemmas.List.{length-map, length-reverse, map-append, reverse-append, reverse-reverse}
 use Rattle.lay_base.specs.declared.faults.UndefinedKind.TheVariants as K
 use Rattle.lay_base.specs.declared.place.Place.{Place}
 use Rattle.c_types.specs.Types.{CType, void, integer, pointer as pointer_to, array, function, structure}
@@ -17,9 +17,9 @@ use Rattle.tac_ir.specs.declared.step.Operand.{Operand}
 use Rattle.tac_ir.specs.declared.step.Step.TheVariants as S
 use Rattle.tac_ir.specs.declared.step.Target.{Target}
 use Rattle.tac_ir.specs.declared.step.Target.TheVariants as To
-use Rattle.lower_tac.specs.Expressions.{arguments_code, branch_code, branch_on, convert_code, convert_step, effect_code, is_void, member_code, named_root, part_code, value_code}
+use Rattle.lower_tac.specs.Expressions.{arguments_code, branch_code, branch_on, convert_code, convert_step, effect_code, is_void, member_code, named_root, part_code, part_of, value_code}
 use Rattle.lower_tac.specs.Grounds.{addressed_code, branch_shown, decides, drops, effect_shown, leads_through, member_shown, to_place, to_value}
-use Rattle.lower_tac.specs.Parts.{Part, Steps, code_of, operand}
+use Rattle.lower_tac.specs.Parts.{Part, Steps, code_of, operand, tested_if}
 
 -- a list whose items have all been taken from the back
 pub back_is : {X : Type 0} (ys : List (Bor X)) (all : List X) → map (λ y. y.now) ys ≡ reverse all → reverse (map (λ y. y.now) ys) ≡ all
@@ -209,7 +209,24 @@ module _ (p : ProgramData) (l : List Local) where
   member_placed q at by to d code other root =
       member_plain q at by to d code other ∙ ap (λ (r : Option ℕ). part_code p l r at by (to_place p l q) to d code) root
 
-  -- ---- arguments, of which all have been made
+  -- ---- arguments: one more has been made, which comes before those
+
+  pub one_more : (ys : List (Bor Made)) (e : Bor Made) (at n : ℕ) (c0 c1 c2 c3 : Steps) → at ≡ suc n
+      → c1 ≡ arguments_code p l (expressions_of (map expression_of (reverse (map (λ e. e.now) ys)))) at c0
+      → c2 ≡ tested_if (part_of p l (expression_of e.now) (value_code p l (expression_of e.now))).lacks
+      (part_of p l (expression_of e.now) (value_code p l (expression_of e.now))).at n c1
+      → c3 ≡ value_code p l (expression_of e.now) n n c2
+      → c3 ≡ arguments_code p l (expressions_of (map expression_of (reverse (map (λ e. e.now) (ys ++ e ∷ []))))) n c0
+  one_more ys e at n c0 c1 c2 c3 place made test value =
+      let x = part_of p l (expression_of e.now) (value_code p l (expression_of e.now)) in
+      let back : reverse (map (λ (e : Bor Made). e.now) (ys ++ e ∷ [])) ≡ e.now ∷ reverse (map (λ (e : Bor Made). e.now) ys) =
+      ap reverse (map-append (λ (e : Bor Made). e.now) ys (e ∷ [])) ∙ reverse-append (map (λ (e : Bor Made). e.now) ys) (e.now ∷ []) in
+      let before : c1 ≡ arguments_code p l (expressions_of (map expression_of (reverse (map (λ e. e.now) ys)))) (suc n) c0 =
+      made ∙ ap (λ m. arguments_code p l (expressions_of (map expression_of (reverse (map (λ (e : Bor Made). e.now) ys)))) m c0) place in
+      value ∙ ap (value_code p l (expression_of e.now) n n) (test ∙ ap (tested_if x.lacks x.at n) before)
+      ∙ ap (λ (more : List Made). arguments_code p l (expressions_of (map expression_of more)) n c0) (sym back)
+
+  -- ---- all have been made
 
   pub told : (ys : List (Bor Made)) (all : List Made) (at d : ℕ) (c0 c1 : Steps) → map (λ e. e.now) ys ≡ reverse all → at + length ys ≡ d + length all
       → c1 ≡ arguments_code p l (expressions_of (map expression_of (reverse (map (λ e. e.now) ys)))) at c0

@@ -1,6 +1,7 @@
 pub mod Parts
 pub mod Expressions
 pub mod Statements
+pub mod Asked
 pub mod Writing
 pub mod Grounds
 pub mod Drafts

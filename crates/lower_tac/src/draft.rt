@@ -7,7 +7,7 @@ use lay_base::{Bytes, List};
 #[derive(Drop)]
 pub struct Draft {
     pub code: Writer,
-    pub labels: Vec<u32>,
+    pub labels: Vec<usize>,
     pub texts: List<Bytes>,
     pub loops: u32,
 }

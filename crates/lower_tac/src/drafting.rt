@@ -1,6 +1,6 @@
 //! Steps, labels and texts of a function, put in front of what is there.
 
-ghost use Rattle.std.specs.Prelude.{◌≡◌, ◌++◌, ◌∷◌, [], length, map};
+ghost use Rattle.std.specs.Prelude.{◌≡◌, ◌+◌, ◌<◌, ◌≤◌, ◌^◌, ◌++◌, ◌∷◌, [], length, map};
 ghost use Rattle.c_typed.specs.RunCounts.Loops.{loops_in_all};
 ghost use Rattle.c_typed.specs.Views.{statement_of, statements_of};
 ghost use Rattle.tac_ir.specs.declared.step.Step.TheVariants as S;
@@ -9,7 +9,7 @@ ghost use Rattle.lower_tac.specs.Statements.{before, here, label_of, marked, wit
 
 use crate::draft::Draft;
 use c_typed::{Statement, loops_in_statements};
-use lay_base::{Bytes, NoMemory, add, copied, push};
+use lay_base::{Bytes, add, copied, push};
 use std::alloc::Global;
 use tac_ir::{Step, Target};
 
@@ -23,41 +23,41 @@ impl Draft {
 
     /// One step more, before the others.
     pub fn put(&mut self, step: Step)
-        ensures { Drafted self.old self.new (before step) }
+        ensures is { Drafted self.old self.new (before step) }
+        ensures loops { self.new.loops ≡ self.old.loops }
     {
         self.code.put(step);
     }
 
     /// A label that is not set yet.
-    pub fn take_label(&mut self) -> u32
-        ensures { DraftedTo self.old self.new result label_of with_label }
+    pub fn take_label(&mut self) -> usize
+        ensures is { DraftedTo self.old self.new result label_of with_label }
+        ensures loops { self.new.loops ≡ self.old.loops }
     {
         let label = self.labels.len();
-        if label > 0xFFFF_FFFF {
-            self.code.fail(NoMemory::unearned());
-            return 0;
-        }
         if let Err(want) = push(&mut self.labels, 0) {
             self.code.fail(want);
             return 0;
         }
-        label as u32
+        label
     }
 
     /// A label is set where the code that is there begins.
     #[tactic(auto, unfolding(crate::specs::Writing::code_in))]
-    fn mark(&mut self, label: u32)
-        ensures { Drafted self.old self.new (marked label) }
+    fn mark(&mut self, label: usize)
+        ensures is { Drafted self.old self.new (marked label) }
+        ensures loops { self.new.loops ≡ self.old.loops }
     {
-        let left = self.code.steps.len() as u32;
-        if let Some(at) = self.labels.get_mut(label as usize) {
+        let left = self.code.steps.len();
+        if let Some(at) = self.labels.get_mut(label) {
             *at = left;
         }
     }
 
     /// The body of the function's loop that stands last before the code begins, at a label.
-    pub fn begin_body(&mut self, function: u32, label: u32)
-        ensures { Drafted self.old self.new (begun function label) }
+    pub fn begin_body(&mut self, function: usize, label: usize)
+        ensures is { Drafted self.old self.new (begun function label) }
+        ensures loops { self.new.loops ≤ self.old.loops }
     {
         self.loops = self.loops.saturating_sub(1);
         self.put(Step::Began(function, self.loops));
@@ -66,31 +66,26 @@ impl Draft {
 
     /// The loops of statements that are to stand before the code that is there.
     pub fn count_loops(&mut self, all: &[Statement])
-        ensures { Drafted self.old self.new (with_loops (loops_in_all (statements_of (map statement_of all.now)))) }
+        requires { self.old.loops + loops_in_all (statements_of (map statement_of all.now)) < 2 ^ 32 }
+        ensures is { Drafted self.old self.new (with_loops (loops_in_all (statements_of (map statement_of all.now)))) }
+        ensures loops { self.new.loops ≡ self.old.loops + loops_in_all (statements_of (map statement_of all.now)) }
     {
-        let more = loops_in_statements(all);
-        if more < 0xFFFF_FFFF - self.loops {
-            self.loops += more;
-        } else {
-            self.code.fail(NoMemory::unearned());
-        }
+        self.loops += loops_in_statements(all);
     }
 
     /// Bytes of a text, so far behind the beginning of the block of a local.
     pub fn put_text(&mut self, alloc: Global, local: u32, offset: u32, bytes: &Bytes)
-        ensures { Drafted self.old self.new (λ out. before (S.Text local offset (length out.texts)) (record out { texts = out.texts ++ bytes.now ∷ [] })) }
+        ensures is { Drafted self.old self.new (λ out. before (S.Text local offset (length out.texts)) (record out { texts = out.texts ++ bytes.now ∷ [] })) }
+        ensures loops { self.new.loops ≡ self.old.loops }
     {
         let number = self.texts.len();
-        if number > 0xFFFF_FFFF {
-            return self.code.fail(NoMemory::unearned());
-        }
         match copied(alloc, bytes.as_slice()) {
             Err(want) => self.code.fail(want),
             Ok(copy) => {
                 if let Err(want) = add(&mut self.texts, Bytes::of(copy)) {
                     self.code.fail(want);
                 }
-                self.put(Step::Text(local, offset, number as u32));
+                self.put(Step::Text(local, offset, number));
             }
         }
     }

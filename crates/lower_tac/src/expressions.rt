@@ -1,7 +1,8 @@
 //! The code of expressions and paths, from the back.
 
-ghost use Rattle.std.specs.Prelude.{◌≡◌, map, true};
+ghost use Rattle.std.specs.Prelude.{◌≡◌, ◌+◌, ◌<◌, ◌^◌, map, true};
 ghost use Rattle.c_typed.specs.Views.{expression_of, expressions_of, path_of};
+ghost use Rattle.lower_tac.specs.Asked.{asked, asked_by_all, asked_by_path};
 ghost use Rattle.lower_tac.specs.Expressions.{arguments_code, branch_code, effect_code, member_code, path_code, value_code};
 ghost use Rattle.lower_tac.specs.Grounds.{locals_in, part_in, place_in, program_in, stored_in, address_in, branch_shown, decides, drops, effect_shown, leads_through, member_shown};
 ghost use Rattle.lower_tac.specs.Parts.{left_code};
@@ -9,24 +10,19 @@ ghost use Rattle.lower_tac.specs.Writing.{Wrote, code_in};
 
 use crate::ground::Ground;
 use crate::operands::{decides, drops, fixed, leads_through};
-use crate::steps::{ALONE, put_truth};
+use crate::steps::{ALONE, behind, put_truth, temporary_below};
 use crate::writer::Writer;
 use c_typed::{Expression, ExpressionNode, Path, PathNode};
-use lay_base::{List, NoMemory, Place, UndefinedKind};
+use lay_base::{List, Place, UndefinedKind};
 use tac_ir::{Operand, Step, Target};
-
-/// Temporaries of a part have numbers that are little greater than its own.
-const GREATEST: u32 = 0xFFFF_FF00;
 
 impl Ground<'_> {
     /// Code that leaves the value in the temporary `to`; those from d on may change.
     #[cycle(lowering)]
     pub fn value(&self, w: &mut Writer, e: &Expression, to: u32, d: u32)
+        requires { d + asked (expression_of e.now) < 2 ^ 32 }
         ensures { Wrote w.old w.new (value_code (program_in self.now) (locals_in self.now) (expression_of e.now) to d) }
     {
-        if d > GREATEST {
-            return w.fail(NoMemory::unearned());
-        }
         let at = e.place;
         match &e.node {
             ExpressionNode::Constant(v) => w.put(Step::Set(to, Operand::Word(*v))),
@@ -131,11 +127,9 @@ impl Ground<'_> {
     /// Assignments, whose results may be dropped.
     #[cycle(lowering)]
     fn stored(&self, w: &mut Writer, e: &Expression, to: Option<u32>, d: u32)
+        requires { d + asked (expression_of e.now) < 2 ^ 32 }
         ensures { Wrote w.old w.new (stored_in self.now e.now to d) }
     {
-        if d > GREATEST {
-            return w.fail(NoMemory::unearned());
-        }
         let at = e.place;
         match &e.node {
             ExpressionNode::Assign(q, x) => match self.named_root(q) {
@@ -188,6 +182,7 @@ impl Ground<'_> {
     /// What an expression does, its value being dropped.
     #[cycle(lowering)]
     pub fn effect(&self, w: &mut Writer, e: &Expression, d: u32)
+        requires { d + asked (expression_of e.now) < 2 ^ 32 }
         ensures { Wrote w.old w.new (effect_code (program_in self.now) (locals_in self.now) (expression_of e.now) d) }
     {
         if drops(e) {
@@ -199,7 +194,8 @@ impl Ground<'_> {
 
     #[cycle(lowering)]
     fn effect_shown(&self, w: &mut Writer, e: &Expression, d: u32)
-        requires { drops (expression_of e.now) ≡ true }
+        requires drops { drops (expression_of e.now) ≡ true }
+        requires few { d + asked (expression_of e.now) < 2 ^ 32 }
         ensures { Wrote w.old w.new (effect_shown (program_in self.now) (locals_in self.now) (expression_of e.now) d) }
     {
         match &e.node {
@@ -218,6 +214,7 @@ impl Ground<'_> {
     /// A jump where the value is true, or where it is not.
     #[cycle(lowering)]
     pub fn branch(&self, w: &mut Writer, e: &Expression, when: bool, to: Target, d: u32)
+        requires { d + asked (expression_of e.now) < 2 ^ 32 }
         ensures { Wrote w.old w.new (branch_code (program_in self.now) (locals_in self.now) (expression_of e.now) when to d) }
     {
         if decides(e) {
@@ -230,12 +227,10 @@ impl Ground<'_> {
 
     #[cycle(lowering)]
     fn branch_shown(&self, w: &mut Writer, e: &Expression, when: bool, to: Target, d: u32)
-        requires { decides (expression_of e.now) ≡ true }
+        requires decides { decides (expression_of e.now) ≡ true }
+        requires few { d + asked (expression_of e.now) < 2 ^ 32 }
         ensures { Wrote w.old w.new (branch_shown (program_in self.now) (locals_in self.now) (expression_of e.now) when to d) }
     {
-        if d > GREATEST {
-            return w.fail(NoMemory::unearned());
-        }
         match &e.node {
             ExpressionNode::Compare(op, x, y) => {
                 self.put_jump(w, e.place, *op, when, x.get(), y.get(), to, d, d + 1);
@@ -270,6 +265,7 @@ impl Ground<'_> {
     /// A part whose value is used: code that leaves it in the temporary d, where it needs any. It is settled where `b` is none.
     #[cycle(lowering)]
     pub fn part(&self, w: &mut Writer, b: Option<Operand>, e: &Expression, d: u32)
+        requires { d + asked (expression_of e.now) < 2 ^ 32 }
         ensures { Wrote w.old w.new (left_code b (part_in self.now e.now) d) }
     {
         match b {
@@ -290,6 +286,7 @@ impl Ground<'_> {
     /// As `part`, of the address to which a path leads.
     #[cycle(lowering)]
     pub fn place(&self, w: &mut Writer, b: Option<Operand>, q: &Path, d: u32)
+        requires { d + asked_by_path (path_of q.now) < 2 ^ 32 }
         ensures { Wrote w.old w.new (left_code b (place_in self.now q.now) d) }
     {
         match b {
@@ -310,6 +307,7 @@ impl Ground<'_> {
     /// An address as a value.
     #[cycle(lowering)]
     fn address(&self, w: &mut Writer, addressed: bool, q: &Path, at: Place, to: u32, d: u32)
+        requires { d + asked_by_path (path_of q.now) < 2 ^ 32 }
         ensures { Wrote w.old w.new (address_in self.now addressed q.now at to d) }
     {
         if self.named_root(q).is_some() {
@@ -322,11 +320,9 @@ impl Ground<'_> {
     /// Code that leaves the address of what a path leads to in the temporary `to`; a named local has none.
     #[cycle(lowering)]
     pub fn path(&self, w: &mut Writer, addressed: bool, q: &Path, to: u32, d: u32)
+        requires { d + asked_by_path (path_of q.now) < 2 ^ 32 }
         ensures { Wrote w.old w.new (path_code (program_in self.now) (locals_in self.now) addressed (path_of q.now) to d) }
     {
-        if d > GREATEST {
-            return w.fail(NoMemory::unearned());
-        }
         let at = q.place;
         match &q.node {
             PathNode::Named(x) => self.put_local(w, at, *x, to),
@@ -356,6 +352,7 @@ impl Ground<'_> {
     /// The field so many bytes behind what a path leads to.
     #[cycle(lowering)]
     fn member(&self, w: &mut Writer, q: &Path, at: Place, by: u32, to: u32, d: u32)
+        requires { d + asked_by_path (path_of q.now) < 2 ^ 32 }
         ensures { Wrote w.old w.new (member_code (program_in self.now) (locals_in self.now) (path_of q.now) at by to d) }
     {
         if leads_through(q) {
@@ -373,12 +370,10 @@ impl Ground<'_> {
 
     #[cycle(lowering)]
     fn member_shown(&self, w: &mut Writer, q: &Path, at: Place, by: u32, to: u32, d: u32)
-        requires { leads_through (path_of q.now) ≡ true }
+        requires through { leads_through (path_of q.now) ≡ true }
+        requires few { d + asked_by_path (path_of q.now) < 2 ^ 32 }
         ensures { Wrote w.old w.new (member_shown (program_in self.now) (locals_in self.now) (path_of q.now) at by to d) }
     {
-        if d > GREATEST {
-            return w.fail(NoMemory::unearned());
-        }
         match &q.node {
             PathNode::Deref(e) => {
                 w.put(Step::Field(to, at, by, self.operand(e.get(), d)));
@@ -396,14 +391,12 @@ impl Ground<'_> {
     /// Values in a row, from the temporary d on.
     #[cycle(lowering)]
     fn arguments(&self, w: &mut Writer, all: &List<Expression>, d: u32)
+        requires { d + asked_by_all (expressions_of (map expression_of all.now)) < 2 ^ 32 }
         ensures { Wrote w.old w.new (arguments_code (program_in self.now) (locals_in self.now) (expressions_of (map expression_of all.now)) d) }
     {
-        if all.len() > (0xFFFF_FFFF - d) as usize {
-            return w.fail(NoMemory::unearned());
-        }
-        let mut at = d + all.len() as u32;
+        let mut at = behind(all, d);
         for e in all.as_slice().iter().rev() {
-            at -= 1;
+            at = temporary_below(at, e);
             self.put_test(w, e, at);
             self.value(w, e, at, at);
         }

@@ -1,11 +1,12 @@
 //! The code of functions, and of a program.
 
-ghost use Rattle.std.specs.Prelude.{◌≡◌, ◌++◌, [], IfOk, None, OnOk, map};
+ghost use Rattle.std.specs.Prelude.{◌≡◌, ◌<◌, ◌^◌, ◌++◌, [], IfOk, None, OnOk, map};
 ghost use Rattle.c_typed.specs.Programs.{data_of, program_data};
 ghost use Rattle.c_meaning.specs.Run.{main_place, numbers};
 ghost use Rattle.tac_ir.specs.Code.{code_of};
 ghost use Rattle.tac_ir.specs.Code as Code;
 ghost use Rattle.source_values.specs.Rows.{TypesAreSmall};
+ghost use Rattle.lower_tac.specs.Asked.{asked_by_body, asked_by_functions};
 ghost use Rattle.lower_tac.specs.Drafts.{out_in};
 ghost use Rattle.lower_tac.specs.Statements.{code_if_any, lowered, parameter_of, routine_of, routines_from};
 
@@ -13,7 +14,7 @@ use crate::draft::Draft;
 use crate::ground::Ground;
 use crate::ways::{Exit, Exits, ReturnWay};
 use crate::writer::Writer;
-use c_typed::{Function, Local, Typed, loops_within};
+use c_typed::{Function, Local, Typed, loops_of};
 use lay_base::{List, NoMemory, Place, add, push};
 use source_values::Types;
 use std::alloc::Global;
@@ -38,7 +39,7 @@ fn empty(alloc: Global, loops: u32) -> Draft
 
 /// The numbers of so many parameters, which come first among the locals.
 #[tactic(auto, using(crate::proofs::Numbers::one_further))]
-fn numbers(alloc: Global, count: u32) -> Result<Vec<u32>, NoMemory>
+fn numbers(alloc: Global, count: usize) -> Result<Vec<usize>, NoMemory>
     ensures { IfOk result (λ all. all.items ≡ numbers count) }
 {
     let mut all = Vec::new(alloc);
@@ -53,20 +54,17 @@ fn numbers(alloc: Global, count: u32) -> Result<Vec<u32>, NoMemory>
 fn draft(
     alloc: Global,
     types: &Types<'_>,
-    number: u32,
+    number: usize,
     function: &Function,
 ) -> Result<Draft, NoMemory>
+    requires { asked_by_body (data_of function.now) (data_of function.now).body < 2 ^ 32 }
     ensures { IfOk result (λ draft. out_in draft ≡ code_if_any (program_data types.now) number (data_of function.now) (data_of function.now).body) }
 {
     let Some(body) = &function.body else {
         return Ok(empty(alloc, 0));
     };
-    let loops = loops_within(function);
     let parameters = function.parameters.len();
     let locals = function.locals.len();
-    if loops == 0xFFFF_FFFF || parameters > 0x7FFF_FFFF || locals > 0x7FFF_FFFF {
-        return Err(NoMemory::unearned());
-    }
     let ground = Ground {
         alloc,
         types,
@@ -74,8 +72,8 @@ fn draft(
         number,
         room: (parameters + locals) as u32,
     };
-    let own = numbers(alloc, parameters as u32)?;
-    let mut draft = empty(alloc, loops);
+    let own = numbers(alloc, parameters)?;
+    let mut draft = empty(alloc, loops_of(function));
     draft.put(Step::Return(ground.fallen()));
     let x = Exits {
         on_break: Exit::Leaves,
@@ -131,9 +129,10 @@ fn blocks(alloc: Global, function: &Function) -> Result<List<bool>, NoMemory>
 fn routine(
     alloc: Global,
     types: &Types<'_>,
-    number: u32,
+    number: usize,
     function: &Function,
 ) -> Result<Routine, NoMemory>
+    requires { asked_by_body (data_of function.now) (data_of function.now).body < 2 ^ 32 }
     ensures { IfOk result (λ made. Code.data_of made ≡ routine_of (program_data types.now) (data_of function.now) (code_if_any (program_data types.now) number (data_of function.now) (data_of function.now).body)) }
 {
     let locals = blocks(alloc, function)?;
@@ -157,14 +156,12 @@ fn routine(
 }
 
 fn routines(alloc: Global, types: &Types<'_>, all: &[Function]) -> Result<List<Routine>, NoMemory>
+    requires { asked_by_functions (map data_of all.now) < 2 ^ 32 }
     ensures { IfOk result (λ made. map Code.data_of made ≡ routines_from (program_data types.now) 0 (map data_of all.now)) }
 {
     let mut made = List::new(alloc);
     for (number, function) in all.iter().enumerate() {
-        if number > 0xFFFF_FFFF {
-            return Err(NoMemory::unearned());
-        }
-        let one = routine(alloc, types, number as u32, function)?;
+        let one = routine(alloc, types, number, function)?;
         add(&mut made, one)?;
     }
     Ok(made)
@@ -174,20 +171,19 @@ fn routines(alloc: Global, types: &Types<'_>, all: &[Function]) -> Result<List<R
 fn main_place(p: &Typed) -> Place
     ensures { result ≡ main_place (program_data p.now) }
 {
-    match p.functions.as_slice().get(p.main as usize) {
+    match p.functions.as_slice().get(p.main) {
         None => Place { file: 0, at: 0 },
         Some(function) => function.place,
     }
 }
 
-/// Three-address code of a program. `NoMemory` comes for want of memory; where the size of a type passes what `Types::of` takes; and
-/// where a function has 2^31 parameters or locals, or something in it has no number of 32 bits.
+/// Three-address code of a program.
 pub fn lower(alloc: Global, p: &Typed) -> Result<Tac, NoMemory>
-    ensures code { IfOk result (λ t. code_of t ≡ lowered (program_data p.now)) }
-    ensures small { IfOk result (λ t. TypesAreSmall (program_data p.now)) }
+    requires asked { asked_by_functions (program_data p.now).functions < 2 ^ 32 }
+    requires small { TypesAreSmall (program_data p.now) }
+    ensures { IfOk result (λ t. code_of t ≡ lowered (program_data p.now)) }
 {
     let types = Types::of(alloc, p)?;
-    types.are_small();
     let routines = routines(alloc, &types, p.functions.as_slice())?;
     Ok(Tac {
         routines,

@@ -12,7 +12,7 @@ pub struct Ground<'a> {
     pub alloc: Global,
     pub types: &'a Types<'a>,
     pub function: &'a Function,
-    pub number: u32,
+    pub number: usize,
     /// The first temporary behind the locals.
     pub room: u32,
     ghost few: { room < 2 ^ 32 - 1 },

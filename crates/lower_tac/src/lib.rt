@@ -4,8 +4,8 @@
 //! `lower` makes the code of the definition, and for every program, input and number of turns, within the room of the interpreter or not, that from some
 //! number of steps on that code comes to the end of the source in the same world (`RunsAreSame`).
 //!
-//! Not said: that `NoMemory` comes only for want of memory. It comes as well where the size of a type passes what `Types::of` takes, and where a function has
-//! 2^31 parameters or locals, 2^32 - 1 steps or loops, or temporaries of numbers above 0xFFFF_FF00.
+//! `lower` asks for a program whose functions need few numbers of temporaries and loops (`asked_by_functions`) and whose types are small, as each program
+//! that is accepted.
 #![tactic(auto)]
 
 mod dispatch;

@@ -1,6 +1,6 @@
 //! The steps of nodes, whose operands are made afterwards. Where there are two, the right one stands in a temporary of its own.
 
-ghost use Rattle.std.specs.Prelude.{◌≡◌, ◌∷◌, OnSome, Some, false, if◌then◌else◌, map, slice_get, true};
+ghost use Rattle.std.specs.Prelude.{◌≡◌, ◌+◌, ◌<◌, ◌^◌, ◌∷◌, Some, false, if◌then◌else◌, map, slice_get, true};
 ghost use Rattle.lay_base.specs.declared.faults.UndefinedKind.TheVariants as K;
 ghost use Rattle.c_typed.specs.Constants.{kind_of, ty};
 ghost use Rattle.c_typed.specs.Conversions.{is_pointer};
@@ -12,6 +12,7 @@ ghost use Rattle.c_meaning.specs.Expressions.{count_kind};
 ghost use Rattle.c_meaning.specs.Program.{access_at, element_size, length_of, size_at, type_at};
 ghost use Rattle.tac_ir.specs.declared.step.Operand.TheVariants as O;
 ghost use Rattle.tac_ir.specs.declared.step.Step.TheVariants as S;
+ghost use Rattle.lower_tac.specs.Asked.{asked_by_all};
 ghost use Rattle.lower_tac.specs.Expressions.{count_of, local_code, no_result, result_code, step_named, unit_kind, update};
 ghost use Rattle.lower_tac.specs.Grounds.{locals_in, part_in, place_in, program_in};
 ghost use Rattle.lower_tac.specs.Parts.{left_operand, operand, settled_operand, temp, tested_if};
@@ -22,14 +23,14 @@ use crate::operands::temp;
 use crate::steps::{ALONE, put_no_result, put_result, row, step_op};
 use crate::writer::Writer;
 use c_typed::{BinaryOp, CompareOp, Expression, LibraryFunction, Path, PointerOp, StepOp};
-use lay_base::{List, NoMemory, Place, UndefinedKind};
+use lay_base::{List, Place, UndefinedKind};
 use tac_ir::{Operand, Step, Target};
 
 impl Ground<'_> {
     pub fn put_binary(
         &self,
         w: &mut Writer,
-        t: u32,
+        t: usize,
         at: Place,
         op: BinaryOp,
         x: &Expression,
@@ -66,7 +67,7 @@ impl Ground<'_> {
     pub fn put_move(
         &self,
         w: &mut Writer,
-        t: u32,
+        t: usize,
         at: Place,
         op: PointerOp,
         x: &Expression,
@@ -124,7 +125,7 @@ impl Ground<'_> {
     pub fn put_index(
         &self,
         w: &mut Writer,
-        t: u32,
+        t: usize,
         at: Place,
         x: &Expression,
         y: &Expression,
@@ -143,7 +144,7 @@ impl Ground<'_> {
     pub fn put_element_field(
         &self,
         w: &mut Writer,
-        t: u32,
+        t: usize,
         at: Place,
         by: u32,
         x: &Expression,
@@ -162,7 +163,7 @@ impl Ground<'_> {
     pub fn put_element(
         &self,
         w: &mut Writer,
-        t: u32,
+        t: usize,
         at: Place,
         addressed: bool,
         q: &Path,
@@ -216,20 +217,20 @@ impl Ground<'_> {
         ));
     }
 
-    pub fn put_local(&self, w: &mut Writer, at: Place, x: u32, to: u32)
+    pub fn put_local(&self, w: &mut Writer, at: Place, x: usize, to: u32)
         ensures { Wrote w.old w.new (λ code. local_code at x (slice_get (locals_in self.now) x) to code) }
     {
         match self.local(x) {
             None => w.put(Step::Fail(UndefinedKind::Dead, at)),
             Some(local) => {
                 if local.block {
-                    w.put(Step::Set(to, Operand::Temp(UndefinedKind::Dead, x, at)));
+                    w.put(Step::Set(to, Operand::Temp(UndefinedKind::Dead, x as u32, at)));
                 }
             }
         }
     }
 
-    pub fn put_load(&self, w: &mut Writer, t: u32, at: Place, q: &Path, to: u32, d: u32)
+    pub fn put_load(&self, w: &mut Writer, t: usize, at: Place, q: &Path, to: u32, d: u32)
         ensures { Wrote w.old w.new (λ code. S.Load to at (access_at (program_in self.now) t) (operand (place_in self.now q.now) d) ∷ code) }
     {
         let a = self.left_place(ALONE, q, d);
@@ -239,7 +240,7 @@ impl Ground<'_> {
     pub fn put_store(
         &self,
         w: &mut Writer,
-        t: u32,
+        t: usize,
         at: Place,
         q: &Path,
         y: &Expression,
@@ -266,7 +267,7 @@ impl Ground<'_> {
     pub fn put_named_update(
         &self,
         w: &mut Writer,
-        t: u32,
+        t: usize,
         at: Place,
         op: BinaryOp,
         n: u32,
@@ -284,7 +285,7 @@ impl Ground<'_> {
     pub fn put_placed_update(
         &self,
         w: &mut Writer,
-        t: u32,
+        t: usize,
         at: Place,
         op: BinaryOp,
         q: &Path,
@@ -307,7 +308,7 @@ impl Ground<'_> {
     pub fn put_named_step(
         &self,
         w: &mut Writer,
-        t: u32,
+        t: usize,
         at: Place,
         op: StepOp,
         n: u32,
@@ -346,7 +347,7 @@ impl Ground<'_> {
     pub fn put_placed_step(
         &self,
         w: &mut Writer,
-        t: u32,
+        t: usize,
         at: Place,
         op: StepOp,
         q: &Path,
@@ -397,17 +398,15 @@ impl Ground<'_> {
         &self,
         w: &mut Writer,
         at: Place,
-        f: u32,
+        f: usize,
         all: &List<Expression>,
         to: u32,
         d: u32,
     )
+        requires { d + asked_by_all (expressions_of (map expression_of all.now)) < 2 ^ 32 }
         ensures { Wrote w.old w.new (λ code. S.Call to at f (record { first = d; count = count_of (expressions_of (map expression_of all.now)) }) ∷ code) }
     {
-        match row(all, d) {
-            None => w.fail(NoMemory::unearned()),
-            Some(row) => w.put(Step::Call(to, at, f, row)),
-        }
+        w.put(Step::Call(to, at, f, row(all, d)));
     }
 
     pub fn put_call_through(
@@ -420,12 +419,10 @@ impl Ground<'_> {
         held: u32,
         d: u32,
     )
+        requires { d + asked_by_all (expressions_of (map expression_of all.now)) < 2 ^ 32 }
         ensures { Wrote w.old w.new (λ code. S.CallThrough to at (ty (expression_of x.now)) (temp (at_of (expression_of x.now)) held) (record { first = d; count = count_of (expressions_of (map expression_of all.now)) }) ∷ code) }
     {
-        match row(all, d) {
-            None => w.fail(NoMemory::unearned()),
-            Some(row) => w.put(Step::CallThrough(to, at, x.ty, temp(x.place, held), row)),
-        }
+        w.put(Step::CallThrough(to, at, x.ty, temp(x.place, held), row(all, d)));
     }
 
     pub fn put_library_call(
@@ -437,20 +434,18 @@ impl Ground<'_> {
         to: u32,
         d: u32,
     )
+        requires { d + asked_by_all (expressions_of (map expression_of all.now)) < 2 ^ 32 }
         ensures { Wrote w.old w.new (λ code. S.Library to at which (record { first = d; count = count_of (expressions_of (map expression_of all.now)) }) ∷ code) }
     {
-        match row(all, d) {
-            None => w.fail(NoMemory::unearned()),
-            Some(row) => w.put(Step::Library(to, at, which, row)),
-        }
+        w.put(Step::Library(to, at, which, row(all, d)));
     }
 
     pub fn put_allocation(
         &self,
         w: &mut Writer,
-        t: u32,
+        t: usize,
         at: Place,
-        r: u32,
+        r: usize,
         zeroed: bool,
         number: Operand,
         to: u32,

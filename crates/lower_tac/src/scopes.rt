@@ -13,21 +13,21 @@ use crate::writer::Writer;
 use tac_ir::{Operand, Step};
 
 impl Ground<'_> {
-    fn begin(&self, w: &mut Writer, x: u32)
+    fn begin(&self, w: &mut Writer, x: usize)
         ensures { Wrote w.old w.new (begin_code (program_in self.now) self.now.number (locals_in self.now) (slice_get (locals_in self.now) x) x) }
     {
         if let Some(local) = self.local(x) {
             if local.block {
-                w.put(Step::Begin(x, self.types.row(local.ty).size));
+                w.put(Step::Begin(x as u32, self.types.row(local.ty).size));
             } else {
-                w.put(Step::Clear(x));
+                w.put(Step::Clear(x as u32));
             }
         }
     }
 
     /// The locals of a block begin.
     #[tactic(auto, using(crate::proofs::FromBack::at_end, crate::proofs::FromBack::one_more))]
-    pub fn begins(&self, w: &mut Writer, own: &[u32])
+    pub fn begins(&self, w: &mut Writer, own: &[usize])
         ensures { Wrote w.old w.new (begins_code (program_in self.now) self.now.number (locals_in self.now) own.now) }
     {
         let mut left = own.len();
@@ -37,19 +37,19 @@ impl Ground<'_> {
         }
     }
 
-    fn end(&self, w: &mut Writer, x: u32)
+    fn end(&self, w: &mut Writer, x: usize)
         ensures { Wrote w.old w.new (end_code (program_in self.now) self.now.number (locals_in self.now) (slice_get (locals_in self.now) x) x) }
     {
         if let Some(local) = self.local(x) {
             if local.block {
-                w.put(Step::End(x));
+                w.put(Step::End(x as u32));
             }
         }
     }
 
     /// The locals of a block end.
     #[tactic(auto, using(crate::proofs::FromBack::at_end, crate::proofs::FromBack::one_more))]
-    pub fn ends(&self, w: &mut Writer, own: &[u32])
+    pub fn ends(&self, w: &mut Writer, own: &[usize])
         ensures { Wrote w.old w.new (ends_code (program_in self.now) self.now.number (locals_in self.now) own.now) }
     {
         let mut left = own.len();
@@ -90,7 +90,7 @@ impl Ground<'_> {
         }
     }
 
-    fn is_block(&self, x: u32) -> bool
+    fn is_block(&self, x: usize) -> bool
         ensures { result ≡ is_block (program_in self.now) self.now.number (locals_in self.now) (slice_get (locals_in self.now) x) }
     {
         match self.local(x) {
@@ -99,7 +99,7 @@ impl Ground<'_> {
         }
     }
 
-    fn have_blocks(&self, own: &[u32]) -> bool
+    fn have_blocks(&self, own: &[usize]) -> bool
         ensures { result ≡ have_blocks (program_in self.now) self.now.number (locals_in self.now) own.now }
     {
         for x in own {
@@ -111,8 +111,9 @@ impl Ground<'_> {
     }
 
     /// The locals of a scope end, once for each way out of it and once for the way through. The answer is where the ways out of what stands in it lead.
-    pub fn end_scope(&self, draft: &mut Draft, own: &[u32], x: Exits) -> Exits
-        ensures { DraftedTo draft.old draft.new result
+    pub fn end_scope(&self, draft: &mut Draft, own: &[usize], x: Exits) -> Exits
+        ensures loops { draft.new.loops ≡ draft.old.loops }
+        ensures is { DraftedTo draft.old draft.new result
             (scope_exits (program_in self.now) self.now.number (locals_in self.now) (have_blocks (program_in self.now) self.now.number (locals_in self.now) own.now) own.now x)
             (scope_end (program_in self.now) self.now.number (locals_in self.now) (have_blocks (program_in self.now) self.now.number (locals_in self.now) own.now) own.now x) }
     {

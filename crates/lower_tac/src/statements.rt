@@ -1,9 +1,10 @@
 //! The code of statements (C99 6.8), from the back.
 
-ghost use Rattle.std.specs.Prelude.{◌≡◌, map, reverse};
+ghost use Rattle.std.specs.Prelude.{◌≡◌, ◌+◌, ◌<◌, ◌≤◌, ◌^◌, map, reverse};
 ghost use Rattle.std.specs.Option.{option_map};
 ghost use Rattle.c_typed.specs.RunCounts.Loops.{arm_of};
 ghost use Rattle.c_typed.specs.Views.{arms_of, expression_of, statement_of, statements_of};
+ghost use Rattle.lower_tac.specs.Asked.{asked, asked_by_arms, asked_by_statement, asked_by_statements, asked_if_any};
 ghost use Rattle.lower_tac.specs.Drafts.{ArmsDrafted, Drafted, before_arms, body_in};
 ghost use Rattle.lower_tac.specs.Grounds.{locals_in, program_in};
 ghost use Rattle.lower_tac.specs.Statements.{arms_code, effect_if_any, in_switch, return_code, statement_code, statements_code, test_code};
@@ -34,6 +35,7 @@ fn leading_behind(end: Target, x: Exits) -> Exits
 impl Ground<'_> {
     /// What is done where the test of a loop holds, or where there is none.
     fn test(&self, w: &mut Writer, e: &Option<Boxed<Expression>>, to: Target)
+        requires { self.now.room + 1 + asked_if_any (option_map expression_of e.now) < 2 ^ 32 }
         ensures { Wrote w.old w.new (test_code (program_in self.now) self.now.number (locals_in self.now) (option_map expression_of e.now) to) }
     {
         match e {
@@ -43,6 +45,7 @@ impl Ground<'_> {
     }
 
     fn effect_if_any(&self, w: &mut Writer, e: &Option<Boxed<Expression>>)
+        requires { self.now.room + 1 + asked_if_any (option_map expression_of e.now) < 2 ^ 32 }
         ensures { Wrote w.old w.new (effect_if_any (program_in self.now) self.now.number (locals_in self.now) (option_map expression_of e.now)) }
     {
         if let Some(e) = e {
@@ -51,6 +54,7 @@ impl Ground<'_> {
     }
 
     fn leave_function(&self, w: &mut Writer, e: &Option<Boxed<Expression>>, way: ReturnWay)
+        requires { self.now.room + 1 + asked_if_any (option_map expression_of e.now) < 2 ^ 32 }
         ensures { Wrote w.old w.new (return_code (program_in self.now) self.now.number (locals_in self.now) (option_map expression_of e.now) way) }
     {
         match (e, way) {
@@ -76,11 +80,12 @@ impl Ground<'_> {
         &self,
         w: &mut Writer,
         e: &Expression,
-        own: &[u32],
+        own: &[usize],
         arms: &[Arm],
         starts: &[Target],
         end: Target,
     )
+        requires { self.now.room + 1 + asked (expression_of e.now) < 2 ^ 32 }
         ensures { Wrote w.old w.new (before_arms (program_in self.now) self.now.number (locals_in self.now) (expression_of e.now) own.now (arms_of (map arm_of arms.now)) starts.now end) }
     {
         w.put(Step::Jump(default_start(end, arms, starts)));
@@ -94,7 +99,10 @@ impl Ground<'_> {
     /// A statement, and what ways out of it lead to.
     #[cycle(statements)]
     pub fn statement(&self, draft: &mut Draft, s: &Statement, x: Exits)
-        ensures { Drafted draft.old draft.new (statement_code (program_in self.now) self.now.number (locals_in self.now) (statement_of s.now) x) }
+        requires few { self.now.room + 1 + asked_by_statement (statement_of s.now) < 2 ^ 32 }
+        requires loops { draft.old.loops + asked_by_statement (statement_of s.now) < 2 ^ 32 }
+        ensures is { Drafted draft.old draft.new (statement_code (program_in self.now) self.now.number (locals_in self.now) (statement_of s.now) x) }
+        ensures loops { draft.new.loops ≤ draft.old.loops + asked_by_statement (statement_of s.now) }
     {
         match s {
             Statement::Do(e) => self.effect(&mut draft.code, e.get(), self.room),
@@ -190,10 +198,13 @@ impl Ground<'_> {
         body: &Boxed<Statement>,
         end: Target,
         next: Target,
-        label: u32,
+        label: usize,
         x: Exits,
     )
-        ensures { Drafted draft.old draft.new (body_in self.now (statement_of body.now) end next label x) }
+        requires few { self.now.room + 1 + asked_by_statement (statement_of body.now) < 2 ^ 32 }
+        requires loops { draft.old.loops + asked_by_statement (statement_of body.now) < 2 ^ 32 }
+        ensures is { Drafted draft.old draft.new (body_in self.now (statement_of body.now) end next label x) }
+        ensures loops { draft.new.loops ≤ draft.old.loops + asked_by_statement (statement_of body.now) }
     {
         let within = Exits {
             on_break: Exit::Leads(end),
@@ -204,21 +215,46 @@ impl Ground<'_> {
         draft.begin_body(self.number, label);
     }
 
+    /// There are numbers for what a statement asks for.
+    fn has_numbers(&self, _draft: &Draft, _s: &Statement)
+        requires few { self.now.room + 1 + asked_by_statement (statement_of _s.now) < 2 ^ 32 }
+        requires loops { _draft.now.loops + asked_by_statement (statement_of _s.now) < 2 ^ 32 }
+        ensures few { self.now.room + 1 + asked_by_statement (statement_of _s.now) < 2 ^ 32 }
+        ensures loops { _draft.now.loops + asked_by_statement (statement_of _s.now) < 2 ^ 32 }
+    {}
+
+    /// There are for those of a list.
+    fn has_numbers_for_all(&self, _draft: &Draft, _all: &List<Statement>)
+        requires few { self.now.room + 1 + asked_by_statements (statements_of (map statement_of _all.now)) < 2 ^ 32 }
+        requires loops { _draft.now.loops + asked_by_statements (statements_of (map statement_of _all.now)) < 2 ^ 32 }
+        ensures few { self.now.room + 1 + asked_by_statements (statements_of (map statement_of _all.now)) < 2 ^ 32 }
+        ensures loops { _draft.now.loops + asked_by_statements (statements_of (map statement_of _all.now)) < 2 ^ 32 }
+    {}
+
     #[cycle(statements)]
     fn statements(&self, draft: &mut Draft, all: &List<Statement>, x: Exits)
-        ensures { Drafted draft.old draft.new (statements_code (program_in self.now) self.now.number (locals_in self.now) (statements_of (map statement_of all.now)) x) }
+        requires few { self.now.room + 1 + asked_by_statements (statements_of (map statement_of all.now)) < 2 ^ 32 }
+        requires loops { draft.old.loops + asked_by_statements (statements_of (map statement_of all.now)) < 2 ^ 32 }
+        ensures is { Drafted draft.old draft.new (statements_code (program_in self.now) self.now.number (locals_in self.now) (statements_of (map statement_of all.now)) x) }
+        ensures loops { draft.new.loops ≤ draft.old.loops + asked_by_statements (statements_of (map statement_of all.now)) }
     {
         for s in all.as_slice().iter().rev() {
+            self.has_numbers(draft, s);
             self.statement(draft, s, x);
         }
     }
 
     /// The arms of a `switch`, and where each begins, the last one first.
     #[cycle(statements)]
+    #[tactic(auto, using(crate::proofs::Counts::arms_more))]
     fn arms(&self, draft: &mut Draft, all: &List<Arm>, x: Exits, starts: &mut Vec<Target>)
-        ensures { ArmsDrafted draft.old draft.new (reverse starts.old.items) (reverse starts.new.items) (arms_code (program_in self.now) self.now.number (locals_in self.now) (arms_of (map arm_of all.now)) x) }
+        requires few { self.now.room + 1 + asked_by_arms (arms_of (map arm_of all.now)) < 2 ^ 32 }
+        requires loops { draft.old.loops + asked_by_arms (arms_of (map arm_of all.now)) < 2 ^ 32 }
+        ensures is { ArmsDrafted draft.old draft.new (reverse starts.old.items) (reverse starts.new.items) (arms_code (program_in self.now) self.now.number (locals_in self.now) (arms_of (map arm_of all.now)) x) }
+        ensures loops { draft.new.loops ≤ draft.old.loops + asked_by_arms (arms_of (map arm_of all.now)) }
     {
         for arm in all.as_slice().iter().rev() {
+            self.has_numbers_for_all(draft, &arm.statements);
             self.statements(draft, &arm.statements, x);
             if let Err(want) = push(starts, draft.here()) {
                 draft.code.fail(want);

@@ -1,6 +1,6 @@
 //! Steps of expressions, whose operands are made afterwards.
 
-ghost use Rattle.std.specs.Prelude.{◌≡◌, ◌+◌, ◌∷◌, ◌<◌, ◌^◌, OnSome, Some, false, length, map, suc};
+ghost use Rattle.std.specs.Prelude.{◌≡◌, ◌+◌, ◌-◌, ◌∷◌, ◌<◌, ◌^◌, Some, false, length, map, suc};
 ghost use Rattle.lay_base.specs.declared.faults.UndefinedKind.TheVariants as K;
 ghost use Rattle.c_typed.specs.Constants.{kind_of};
 ghost use Rattle.c_typed.specs.Conversions.{is_pointer};
@@ -12,6 +12,7 @@ ghost use Rattle.c_meaning.specs.Program.{access_at, element_size, length_of, si
 ghost use Rattle.tac_ir.specs.declared.step.Operand.TheVariants as O;
 ghost use Rattle.tac_ir.specs.declared.step.Step.TheVariants as S;
 ghost use Rattle.tac_ir.specs.declared.step.Target.TheVariants as To;
+ghost use Rattle.lower_tac.specs.Asked.{asked, asked_by_all};
 ghost use Rattle.lower_tac.specs.Expressions.{convert_step, count_of, is_void, local_code, no_result, place_lacks, place_value_at, result_code};
 ghost use Rattle.lower_tac.specs.Expressions.{sort_of, step_named, unit_kind, update, lacks};
 ghost use Rattle.lower_tac.specs.Grounds.{locals_in, part_in, place_in, program_in};
@@ -39,19 +40,35 @@ pub fn step_op(op: StepOp) -> BinaryOp
     }
 }
 
-/// Arguments in a row, from the temporary d on; none where their numbers pass 32 bits.
-#[tactic(auto, using(crate::proofs::Counts::count_is))]
-pub fn row(all: &List<Expression>, d: u32) -> Option<Row>
-    ensures { OnSome result ((result ≡ Some (record { first = d; count = count_of (expressions_of (map expression_of all.now)) }))) }
+/// Arguments in a row, from the temporary d on.
+#[tactic(auto, using(crate::proofs::Counts::count_is, crate::proofs::Counts::each_asks))]
+pub fn row(all: &List<Expression>, d: u32) -> Row
+    requires { d + asked_by_all (expressions_of (map expression_of all.now)) < 2 ^ 32 }
+    ensures { result ≡ record { first = d; count = count_of (expressions_of (map expression_of all.now)) } }
 {
-    let count = all.len();
-    if count > (0xFFFF_FFFF - d) as usize {
-        return None;
-    }
-    Some(Row {
+    Row {
         first: d,
-        count: count as u32,
-    })
+        count: all.len() as u32,
+    }
+}
+
+/// The first temporary behind such a row.
+#[tactic(auto, using(crate::proofs::Counts::each_asks))]
+pub fn behind(all: &List<Expression>, d: u32) -> u32
+    requires { d + asked_by_all (expressions_of (map expression_of all.now)) < 2 ^ 32 }
+    ensures { result ≡ d + length all.now }
+{
+    d + all.len() as u32
+}
+
+/// The temporary of an argument before those that follow it.
+pub fn temporary_below(at: u32, _e: &Expression) -> u32
+    requires some { 0 < at }
+    requires few { at - 1 + asked (expression_of _e.now) < 2 ^ 32 }
+    ensures is { result ≡ at - 1 }
+    ensures few { result + asked (expression_of _e.now) < 2 ^ 32 }
+{
+    at - 1
 }
 
 /// What has no use as a result is dropped.
@@ -92,13 +109,13 @@ pub fn put_truth(w: &mut Writer, to: u32, decided: u32, other: u32) -> Target
 }
 
 impl Ground<'_> {
-    pub fn kind(&self, t: u32) -> IntKind
+    pub fn kind(&self, t: usize) -> IntKind
         ensures { result ≡ kind_of (type_at (program_in self.now) t) }
     {
         self.types.row(t).kind
     }
 
-    pub fn is_void(&self, t: u32) -> bool
+    pub fn is_void(&self, t: usize) -> bool
         ensures { result ≡ is_void (type_at (program_in self.now) t) }
     {
         match self.types.row(t).sort {
@@ -107,7 +124,7 @@ impl Ground<'_> {
         }
     }
 
-    pub fn is_pointer(&self, t: u32) -> bool
+    pub fn is_pointer(&self, t: usize) -> bool
         ensures { result ≡ is_pointer (type_at (program_in self.now) t) }
     {
         match self.types.row(t).sort {
@@ -117,7 +134,7 @@ impl Ground<'_> {
     }
 
     /// The kind of the number of elements by which a pointer moves.
-    pub fn count_kind(&self, x: u32, y: u32) -> IntKind
+    pub fn count_kind(&self, x: usize, y: usize) -> IntKind
         ensures { result ≡ count_kind (type_at (program_in self.now) x) (type_at (program_in self.now) y) }
     {
         if self.is_pointer(x) {
@@ -127,7 +144,7 @@ impl Ground<'_> {
         }
     }
 
-    fn updated(&self, t: u32) -> Updated
+    fn updated(&self, t: usize) -> Updated
         ensures { result ≡ sort_of (type_at (program_in self.now) t) }
     {
         match self.types.row(t).sort {
@@ -136,7 +153,7 @@ impl Ground<'_> {
         }
     }
 
-    pub fn unit_kind(&self, t: u32) -> IntKind
+    pub fn unit_kind(&self, t: usize) -> IntKind
         ensures { result ≡ unit_kind (type_at (program_in self.now) t) }
     {
         match self.types.row(t).sort {
@@ -145,7 +162,7 @@ impl Ground<'_> {
         }
     }
 
-    fn conversion(&self, t: u32, at: Place, to: u32, a: Operand) -> Step
+    fn conversion(&self, t: usize, at: Place, to: u32, a: Operand) -> Step
         ensures { (code : Steps) → convert_step (type_at (program_in self.now) t) at to a code ≡ result ∷ code }
     {
         match self.types.row(t).sort {
@@ -155,7 +172,7 @@ impl Ground<'_> {
         }
     }
 
-    pub fn put_conversion(&self, w: &mut Writer, t: u32, x: &Expression, to: u32, a: Operand)
+    pub fn put_conversion(&self, w: &mut Writer, t: usize, x: &Expression, to: u32, a: Operand)
         ensures { Wrote w.old w.new (convert_step (type_at (program_in self.now) t) (at_of (expression_of x.now)) to a) }
     {
         w.put(self.conversion(t, x.place, to, a));
@@ -177,7 +194,7 @@ impl Ground<'_> {
     pub fn put_update(
         &self,
         w: &mut Writer,
-        t: u32,
+        t: usize,
         at: Place,
         op: BinaryOp,
         right: IntKind,

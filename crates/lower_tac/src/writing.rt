@@ -16,12 +16,8 @@ impl Writer {
     pub fn put(&mut self, step: Step)
         ensures { Wrote self.old self.new (λ code. step ∷ code) }
     {
-        if self.steps.len() < 0xFFFF_FFFF {
-            if let Err(want) = push(&mut self.steps, step) {
-                self.fail(want);
-            }
-        } else {
-            self.fail(NoMemory::unearned());
+        if let Err(want) = push(&mut self.steps, step) {
+            self.fail(want);
         }
     }
 
@@ -37,6 +33,6 @@ impl Writer {
     pub fn here(&self) -> Target
         ensures { result ≡ To.Left (length (code_in self.now)) }
     {
-        Target::Left(self.steps.len() as u32)
+        Target::Left(self.steps.len())
     }
 }

@@ -5,7 +5,7 @@
 //! item for which room was reserved; and that `Words` is a list of groups of four cells, whatever they hold.
 //!
 //! Not proved: how long anything takes, and how much memory. `PagedList` refuses more than 2^29 pages. A byte among bytes, four bytes, and a whole pointer in
-//! place of another one are each written in one place. A word has 8 bytes; in a table a pointer takes 16 bytes and a group 80, and each 4 more for its owner.
+//! place of another one are each written in one place. A word has 8 bytes; in a table a pointer takes 16 bytes and a group 96, and each 4 more for its owner.
 //! The tables take room for all words as the list grows, and what is not used of it is not touched.
 #![tactic(auto)]
 

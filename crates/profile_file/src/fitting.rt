@@ -12,21 +12,21 @@ use c_typed::{Counts, Defined, FunCount, Typed, function_count, loops_of};
 use lay_base::{Stale, StaleKind};
 
 /// The name of the function of that number.
-fn name_at(p: &Typed, number: u32) -> &[u8]
+fn name_at(p: &Typed, number: usize) -> &[u8]
     ensures { result.now ≡ name_at (program_data p.now) number }
 {
-    match p.functions.get(number as usize) {
+    match p.functions.get(number) {
         None => b"",
         Some(f) => f.name.as_slice(),
     }
 }
 
 /// How many loops the function of that number has.
-fn loops_at(p: &Typed, number: u32) -> u32
+fn loops_at(p: &Typed, number: usize) -> u32
     requires { loops_at (program_data p.now) number < 2 ^ 32 }
     ensures { result ≡ loops_at (program_data p.now) number }
 {
-    match p.functions.get(number as usize) {
+    match p.functions.get(number) {
         None => 0,
         Some(f) => loops_of(f),
     }
@@ -52,7 +52,7 @@ fn functions_fit(c: &Counts, p: &Typed) -> Result<(), Stale>
     ensures value { result ≡ unless_stale (functions_differ (length (defined_in (program_data p.now))) (length c.now.functions)) }
     ensures few { OnOk result (length c.now.functions < 2 ^ 32) }
 {
-    let expected = u64::from(function_count(p));
+    let expected = function_count(p) as u64;
     let found = c.functions.len() as u64;
     if expected == found {
         return Ok(());

@@ -107,7 +107,12 @@ fn put_without_place<E: Sink>(err: &mut E, refusal: &Refusal) -> Result<(), Sink
         Refusal::TooLong(name) => put_line(err, &[name.as_slice(), b" is too long"]),
         Refusal::NotBuilt(name) => put_line(err, &[name.as_slice(), b": form not built yet"]),
         Refusal::Limit(which, counted) => put_passed(err, b"limit ", limit_name(*which), *counted),
-        Refusal::Room(what, counted) => put_passed(err, b"room ", room_name(*what), *counted),
+        Refusal::Room(what, counted) => put_passed(
+            err,
+            b"room ",
+            room_name(*what),
+            u128::from(*counted),
+        ),
         Refusal::TurnLimit(turns) => put_reached(err, b"turn limit ", *turns),
         Refusal::StepLimit(steps) => put_reached(err, b"step limit ", *steps),
         Refusal::BadProfile(line) => put_bad_profile(err, *line),
@@ -123,7 +128,12 @@ fn put_without_place<E: Sink>(err: &mut E, refusal: &Refusal) -> Result<(), Sink
 }
 
 // Puts the line of a limit or a room that so much passed.
-fn put_passed<E: Sink>(err: &mut E, kind: &[u8], name: &[u8], counted: u64) -> Result<(), SinkFault>
+fn put_passed<E: Sink>(
+    err: &mut E,
+    kind: &[u8],
+    name: &[u8],
+    counted: u128,
+) -> Result<(), SinkFault>
     ensures { Puts (E.faults err.old) (E.faults err.new) (E.written err.old) (E.written err.new)
         (line (kind.now ∷ name.now ∷ codes " passed: " ∷ decimal counted ∷ [])) result }
 {

@@ -37,7 +37,7 @@ pub enum Refusal {
     /// No file defines `main`.
     NoMain,
     /// A limit, with the number that passed it.
-    Limit(LimitKind, u64),
+    Limit(LimitKind, u128),
     /// A step of the source program has no defined meaning.
     Undefined(UndefinedKind, Place),
     /// The source program goes on after so many turns.

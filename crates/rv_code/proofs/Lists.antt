@@ -26,6 +26,11 @@ text_missing [] n e = refl
 text_missing (t ∷ more) zero e = cc
 text_missing (t ∷ more) (suc n) e = text_missing more n e
 
+pub label_missing : (labels : List ℕ) (k : ℕ) → slice_get labels k ≡ None → get_or labels k 0 ≡ 0
+label_missing [] k e = refl
+label_missing (n ∷ more) zero e = cc
+label_missing (n ∷ more) (suc k) e = label_missing more k e
+
 -- places ascend
 pub end_is_behind : (at : ℕ) (sizes : List ℕ) → at ≤ end_from at sizes
 end_is_behind at [] = omega arith

@@ -125,7 +125,6 @@ pub fn places(alloc: Global, sizes: &[u32], at: u64) -> Result<(Vec<u32>, u64), 
 }
 
 /// The frame of a function: where the block of each local is, and how large the frame is.
-
 pub(crate) fn frame(alloc: Global, g: &Routine) -> Result<Layout, NoMemory>
     requires { frame_size (data_of g.now) < 2 ^ 31 }
     ensures { IfOk result (λ frame. frame ≡ frame_alone (data_of g.now)) }

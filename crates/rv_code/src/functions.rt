@@ -24,7 +24,13 @@ fn parameter(code: &mut Vec<Inst>, l: &Layout, x: u32, r: Parameter) -> Result<(
     ensures { OnOk result (code.new.items ≡ code.old.items ++ parameter_code l.now x r) }
 {
     if r.block {
-        keep(code, r.access, 5, 2, entry_at(l.blocks.as_slice(), x))
+        keep(
+            code,
+            r.access,
+            5,
+            2,
+            entry_at(l.blocks.as_slice(), x as usize),
+        )
     } else {
         give(code, x, 5)
     }

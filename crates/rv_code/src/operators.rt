@@ -3,7 +3,7 @@
 ghost use Rattle.std.specs.Prelude.{◌≡◌, ◌++◌, ◌∷◌, [], OnOk};
 ghost use Rattle.rv_code.specs.Operators.{binary_code, compare_code, convert_code, distance_code, less_code, move_code, not_code, offset_code, opposite, pointer_code, scale_code, skip_if, skip_less, skip_not_less, skip_unless, skip_unless_true, unary_code};
 
-use crate::words::number;
+use crate::words::{addi, number};
 use c_typed::{BinaryOp, CompareOp, PointerOp, UnaryOp, is_signed};
 use c_types::IntKind;
 use lay_base::{NoMemory, append};
@@ -415,14 +415,7 @@ pub(crate) fn offset(code: &mut Vec<Inst>, by: u32) -> Result<(), NoMemory>
     if by == 0 {
         Ok(())
     } else if by < 2048 {
-        append(
-            code,
-            &[Inst::Addi {
-                rd: 5,
-                rs1: 5,
-                imm: by as i32,
-            }],
-        )
+        append(code, &[addi(5, 5, by as i32)])
     } else {
         number(code, 6, u64::from(by))?;
         append(

@@ -7,7 +7,7 @@ ghost use Rattle.tac_ir.specs.Code.{code_of, data_of};
 use crate::functions::{function, layout};
 use crate::layout::{Layout, Places};
 use crate::steps::entry_at;
-use crate::words::call;
+use crate::words::{addi, call};
 use lay_base::{List, NoMemory, append, push};
 use rv_isa::Inst;
 use std::alloc::Global;
@@ -28,17 +28,7 @@ fn start(code: &mut Vec<Inst>, stack_end: u32, main: u64) -> Result<(), NoMemory
         }],
     )?;
     call(code, main)?;
-    append(
-        code,
-        &[
-            Inst::Addi {
-                rd: 17,
-                rs1: 0,
-                imm: 93,
-            },
-            Inst::Ecall,
-        ],
-    )
+    append(code, &[addi(17, 0, 93), Inst::Ecall])
 }
 
 /// The layouts of functions, and their entries.

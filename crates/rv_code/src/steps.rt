@@ -12,7 +12,7 @@ use crate::operators::{
     binary, compare, convert, distance, move_by, not, offset, scale, skip_unless, skip_unless_true,
     unary,
 };
-use crate::words::{address, call, fetch, jump, keep, load_by, number, place, store_by};
+use crate::words::{addi, address, call, fetch, jump, keep, load_by, number, place, store_by};
 use block_memory::Access;
 use c_typed::{BinaryOp, LibraryFunction, PointerOp, is_shift, promoted_kind};
 use c_types::IntKind;
@@ -44,11 +44,11 @@ pub(crate) fn slot_at(t: u64) -> u64
 }
 
 /// The number at a place of a table, or 0.
-pub(crate) fn entry_at(table: &[u32], n: u32) -> u64
+pub(crate) fn entry_at(table: &[u32], n: usize) -> u64
     ensures value { result ≡ slice_index table.now n }
     ensures small { result < 2 ^ 32 }
 {
-    match table.get(n as usize) {
+    match table.get(n) {
         Some(place) => u64::from(*place),
         None => 0,
     }
@@ -68,7 +68,7 @@ fn temporary(code: &mut Vec<Inst>, g: &Routine, l: &Layout, rd: u8, t: u32) -> R
     ensures { OnOk result (code.new.items ≡ code.old.items ++ temporary_code (data_of g.now) l.now rd t) }
 {
     if is_block(g, t) {
-        address(code, rd, 2, entry_at(l.blocks.as_slice(), t))
+        address(code, rd, 2, entry_at(l.blocks.as_slice(), t as usize))
     } else {
         fetch(code, rd, 2, slot_at(u64::from(t)))
     }
@@ -156,19 +156,23 @@ fn three(code: &mut Vec<Inst>, first: u64) -> Result<(), NoMemory>
 }
 
 /// In front of the code of which so many steps are left.
-fn place_left(l: &Layout, left: u32) -> u64
+fn place_left(l: &Layout, left: usize) -> u64
     ensures { result ≡ place_left l.now left }
 {
     u64::from(l.end).saturating_sub(4 * entry_at(l.behind.as_slice(), left))
 }
 
 /// Where a jump leads.
+#[tactic(auto, using(crate::proofs::Lists::label_missing))]
 fn place_led(g: &Routine, l: &Layout, to: Target) -> u64
     ensures { result ≡ place_led (data_of g.now) l.now to }
 {
     match to {
         Target::Left(n) => place_left(l, n),
-        Target::Label(k) => place_left(l, entry_at(g.labels.as_slice(), k) as u32),
+        Target::Label(k) => match g.labels.get(k) {
+            Some(n) => place_left(l, *n),
+            None => place_left(l, 0),
+        },
     }
 }
 
@@ -196,26 +200,10 @@ fn write(code: &mut Vec<Inst>) -> Result<(), NoMemory>
                 rs2: 10,
                 imm: 64,
             },
-            Inst::Addi {
-                rd: 11,
-                rs1: 11,
-                imm: 64,
-            },
-            Inst::Addi {
-                rd: 10,
-                rs1: 0,
-                imm: 1,
-            },
-            Inst::Addi {
-                rd: 12,
-                rs1: 0,
-                imm: 1,
-            },
-            Inst::Addi {
-                rd: 17,
-                rs1: 0,
-                imm: 64,
-            },
+            addi(11, 11, 64),
+            addi(10, 0, 1),
+            addi(12, 0, 1),
+            addi(17, 0, 64),
             Inst::Ecall,
             Inst::Lbu {
                 rd: 5,
@@ -233,30 +221,14 @@ fn read(code: &mut Vec<Inst>) -> Result<(), NoMemory>
     append(
         code,
         &[
-            Inst::Addi {
-                rd: 10,
-                rs1: 0,
-                imm: 0,
-            },
+            addi(10, 0, 0),
             Inst::Lui {
                 rd: 11,
                 imm: 0x8000,
             },
-            Inst::Addi {
-                rd: 11,
-                rs1: 11,
-                imm: 64,
-            },
-            Inst::Addi {
-                rd: 12,
-                rs1: 0,
-                imm: 1,
-            },
-            Inst::Addi {
-                rd: 17,
-                rs1: 0,
-                imm: 63,
-            },
+            addi(11, 11, 64),
+            addi(12, 0, 1),
+            addi(17, 0, 63),
             Inst::Ecall,
             Inst::Beq {
                 rs1: 10,
@@ -269,11 +241,7 @@ fn read(code: &mut Vec<Inst>) -> Result<(), NoMemory>
                 imm: 0,
             },
             Inst::Jal { rd: 0, imm: 8 },
-            Inst::Addi {
-                rd: 5,
-                rs1: 0,
-                imm: -1,
-            },
+            addi(5, 0, -1),
         ],
     )
 }
@@ -392,16 +360,16 @@ fn block(code: &mut Vec<Inst>, l: &Layout, rd: u8, x: u32, by: u32) -> Result<()
         code,
         rd,
         2,
-        entry_at(l.blocks.as_slice(), x) + u64::from(by),
+        entry_at(l.blocks.as_slice(), x as usize) + u64::from(by),
     )
 }
 
 /// How many bytes a text has.
 #[tactic(auto, using(crate::proofs::Lists::text_found, crate::proofs::Lists::text_missing))]
-fn text_length(g: &Routine, n: u32) -> u64
+fn text_length(g: &Routine, n: usize) -> u64
     ensures { result ≡ length (get_or g.now.texts n []) }
 {
-    match g.texts.get(n as usize) {
+    match g.texts.get(n) {
         Some(bytes) => bytes.len() as u64,
         None => 0,
     }
@@ -414,7 +382,7 @@ fn text(
     l: &Layout,
     x: u32,
     by: u32,
-    n: u32,
+    n: usize,
 ) -> Result<(), NoMemory>
     ensures { OnOk result (code.new.items ≡ code.old.items ++ text_code (data_of g.now) l.now x by n) }
 {
@@ -629,26 +597,12 @@ pub(crate) fn step(
         Step::Begin(_, _) | Step::End(_) | Step::Forget(_, _) => Ok(()),
         Step::Zeros(x, size) => {
             block(code, l, 10, x, 0)?;
-            append(
-                code,
-                &[Inst::Addi {
-                    rd: 11,
-                    rs1: 0,
-                    imm: 0,
-                }],
-            )?;
+            append(code, &[addi(11, 0, 0)])?;
             number(code, 12, u64::from(size))?;
             call(code, FILL)
         }
         Step::Text(x, by, n) => text(code, g, l, x, by, n),
-        Step::Began(_, _) => append(
-            code,
-            &[Inst::Addi {
-                rd: 0,
-                rs1: 0,
-                imm: 0,
-            }],
-        ),
+        Step::Began(_, _) => append(code, &[addi(0, 0, 0)]),
         Step::Return(a) => {
             get_if_any(code, p, g, l, a)?;
             leave(code, l)

@@ -1,12 +1,20 @@
 //! Numbers, words of memory and jumps.
 
 ghost use Rattle.std.specs.Prelude.{◌≡◌, ◌++◌, ◌∷◌, [], OnOk};
+ghost use Rattle.rv_isa.specs.declared.instruction.Inst.TheVariants.{Addi};
 ghost use Rattle.rv_code.specs.Words.{address_code, call_code, fetch_code, jump_code, keep_code, load_by, load_number, lower, number_code, place_code, store_by, store_number, upper};
 
 use block_memory::Access;
 use c_types::IntKind;
 use lay_base::{NoMemory, append};
 use rv_isa::Inst;
+
+/// The sum of a register and a number.
+pub(crate) fn addi(rd: u8, rs1: u8, imm: i32) -> Inst
+    ensures { result ≡ Addi rd rs1 imm }
+{
+    Inst::Addi { rd, rs1, imm }
+}
 
 /// The low 12 bits of a number as a signed one.
 fn lower(n: u64) -> i32
@@ -30,26 +38,9 @@ pub(crate) fn number(code: &mut Vec<Inst>, rd: u8, n: u64) -> Result<(), NoMemor
     let low = lower(n);
     let high = upper(n);
     if high == 0 {
-        append(
-            code,
-            &[Inst::Addi {
-                rd,
-                rs1: 0,
-                imm: low,
-            }],
-        )
+        append(code, &[addi(rd, 0, low)])
     } else {
-        append(
-            code,
-            &[
-                Inst::Lui { rd, imm: high },
-                Inst::Addi {
-                    rd,
-                    rs1: rd,
-                    imm: low,
-                },
-            ],
-        )
+        append(code, &[Inst::Lui { rd, imm: high }, addi(rd, rd, low)])
     }
 }
 
@@ -59,14 +50,7 @@ pub(crate) fn place(code: &mut Vec<Inst>, rd: u8, n: u64) -> Result<(), NoMemory
 {
     append(
         code,
-        &[
-            Inst::Lui { rd, imm: upper(n) },
-            Inst::Addi {
-                rd,
-                rs1: rd,
-                imm: lower(n),
-            },
-        ],
+        &[Inst::Lui { rd, imm: upper(n) }, addi(rd, rd, lower(n))],
     )
 }
 
@@ -244,14 +228,7 @@ pub(crate) fn address(code: &mut Vec<Inst>, rd: u8, base: u8, offset: u64) -> Re
     ensures { OnOk result (code.new.items ≡ code.old.items ++ address_code rd base offset) }
 {
     if offset < 2048 {
-        append(
-            code,
-            &[Inst::Addi {
-                rd,
-                rs1: base,
-                imm: offset as i32,
-            }],
-        )
+        append(code, &[addi(rd, base, offset as i32)])
     } else {
         append(
             code,
@@ -260,11 +237,7 @@ pub(crate) fn address(code: &mut Vec<Inst>, rd: u8, base: u8, offset: u64) -> Re
                     rd,
                     imm: upper(offset),
                 },
-                Inst::Addi {
-                    rd,
-                    rs1: rd,
-                    imm: lower(offset),
-                },
+                addi(rd, rd, lower(offset)),
                 Inst::Add {
                     rd,
                     rs1: rd,

@@ -60,10 +60,10 @@ fn put(segment: &mut Vec<u8>, at: usize, bytes: &[u8])
 }
 
 /// The place with that number, or 0.
-fn place_at(places: &[u32], n: u32) -> u32
+fn place_at(places: &[u32], n: usize) -> u32
     ensures { result ≡ slice_index places.now n }
 {
-    match places.get(n as usize) {
+    match places.get(n) {
         Some(place) => *place,
         None => 0,
     }

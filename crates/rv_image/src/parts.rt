@@ -7,6 +7,7 @@ ghost use Rattle.rv_image.specs.Data.{object_places, texts_at};
 ghost use Rattle.rv_image.specs.Images.{Fits, full_segment, image_of, image_with, room_segment};
 ghost use Rattle.rv_isa.specs.Encoding.{IsInRange};
 ghost use Rattle.rv_runtime.specs.Bytes.{bytes_of, runtime_bytes, words_of};
+ghost use Rattle.source_values.specs.Rows.{TypesAreSmall};
 ghost use Rattle.tac_ir.specs.Code.{code_of};
 
 use crate::data::{data, object_sizes};
@@ -110,7 +111,8 @@ fn segments(
 
 /// Where the objects of a program lie, and where its texts begin.
 fn places_in(alloc: Global, p: &Typed) -> Result<(List<u32>, u64), NoMemory>
-    requires { texts_at (program_data p.now) < 2 ^ 32 }
+    requires texts { texts_at (program_data p.now) < 2 ^ 32 }
+    requires small { TypesAreSmall (program_data p.now) }
     ensures places { IfOk result (λ made. made.0 ≡ object_places (program_data p.now)) }
     ensures texts { IfOk result (λ made. made.1 ≡ texts_at (program_data p.now)) }
 {
@@ -120,10 +122,10 @@ fn places_in(alloc: Global, p: &Typed) -> Result<(List<u32>, u64), NoMemory>
     Ok((List::of(places), end))
 }
 
-/// The image of a program and of its code, with so many MiB of heap and of stack. `NoMemory` comes for want of memory, and where the size of a type passes what
-/// `Types::of` takes.
+/// The image of a program and of its code, with so many MiB of heap and of stack.
 pub fn image(alloc: Global, p: &Typed, t: &Tac, heap: u32, stack: u32) -> Result<Image, NoMemory>
     requires fits { Fits (program_data p.now) t.now }
+    requires small { TypesAreSmall (program_data p.now) }
     requires some_heap { 1 ≤ heap }
     requires heap { heap ≤ 1024 }
     requires some_stack { 1 ≤ stack }

@@ -3,3 +3,4 @@ pub mod Reaching
 pub mod Stopping
 pub mod Zeros
 pub mod Beginning
+pub mod Further

@@ -4,6 +4,7 @@ use Rattle.c_typed.specs.Programs.{ProgramData}
 use Rattle.lay_base.specs.Known.{Appends}
 use Rattle.block_memory.specs.RunWorlds.Events.{Event, Call, putting, getting, calls_of}
 use Rattle.block_memory.specs.RunWorlds.Worlds.{End}
+use Rattle.block_memory.specs.declared.run_worlds.value.Value.{Value}
 use Rattle.c_meaning.specs.Run.{run_of}
 use Rattle.source_run.specs.Advances.{AdvanceGives, Wrote, Read}
 use Rattle.source_run.specs.RunGives.{bytes_put, rest_behind}
@@ -18,7 +19,7 @@ use Rattle.source_state.specs.declared.ends.Final.{Final}
 use Rattle.source_state.specs.declared.ends.Moved.{Moved}
 use Rattle.source_state.specs.declared.ends.Moved.TheVariants.{Goes, Puts, Gets, Over}
 use Rattle.tac_engine.specs.States.{State, Moves}
-use Rattle.tac_engine.specs.Steps.{stepped}
+use Rattle.tac_engine.specs.Steps.{read_given, stepped}
 use Rattle.tac_engine.proofs.Remains.{Keeps, Within, given_agrees, left_of, step_keeps}
 use Rattle.tac_engine.proofs.Same.{state_behind}
 
@@ -134,7 +135,8 @@ module _ (p : ProgramData) (turns : ℕ) where
         steady = steady_then before now here far.steady w.steady;
         reached = λ input known. let r = far.reached input known in let read = w.reads (rest_behind r.calls input) r.left in record {
           calls = r.calls ++ getting ∷ [];
-          at = subst (λ (u : State). Came input u (r.calls ++ getting ∷ [])) (sym read.1) r.at;
+          at = subst (λ (u : State). Came input u (r.calls ++ getting ∷ []))
+              (sym (w.given ∙ ap (λ (v : Value). read_given v (stepped s).1) read.1)) r.at;
           written = rw (put_got r.calls) (w.written ∙ r.written);
           left = read.0 ∙ ap Some (sym (rest_got r.calls input));
         };

@@ -225,7 +225,3 @@ module _ (p : ProgramData) (turns : ℕ) where
       left = known;
     },
   )
-
-  -- behind all steps that the code makes
-  pub steps_on : (before now : Streams) (s : State) (counts : Counts) → FarAt p turns before now s → RunGives p turns before now counts (E.Memory no_memory)
-  steps_on before now s counts far = (far.steady, λ input known. lacks_so before now now s s counts far input known refl (inl refl))

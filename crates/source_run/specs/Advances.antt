@@ -38,7 +38,9 @@ module _ (old new : State) (before now : Streams) where
     pub steps : (stepped old).0 ≡ Gets
     pub steady : AreSteady before now
     pub written : now.written ≡ before.written
-    pub reads : (input : List ℕ) → before.left ≡ Some input → (now.left ≡ Some (behind_next input)) × (new ≡ read_given (next_in input) (stepped old).1)
+    pub value : Value
+    pub given : new ≡ read_given value (stepped old).1
+    pub reads : Reads before.left now.left value
 
   pub record ReadFails : Type 0 where
     pub steps : (stepped old).0 ≡ Gets

@@ -17,13 +17,19 @@ use Rattle.source_state.specs.declared.ends.Final.{Final}
 use Rattle.source_state.specs.declared.ends.Final.TheVariants.{Ends, TurnLimit, Undefined, Room}
 use Rattle.tac_engine.specs.States.{State}
 use Rattle.tac_engine.specs.View.{ready}
+use Rattle.source_values.specs.Rows.{TypesAreSmall}
 use Rattle.tac_ir.specs.Code.{code_of}
+use Rattle.tac_ir.specs.Steady.{AllSteady}
 use Rattle.tac_ir.specs.declared.step.Routine.{Routine}
 use Rattle.tac_ir.specs.declared.step.Tac.{Tac}
 
 -- the program's objects are in memory, and its counts are all 0
 abbrev pub first_core : ProgramData → (turns : ℕ) → Core
 first_core p turns = core_at_start p turns (no_counts p)
+
+-- its code is steady, where its types are small
+abbrev pub IsSteadyProgram : ProgramData → Type 0
+IsSteadyProgram p = TypesAreSmall p → AllSteady (lowered p).routines
 
 -- an engine for the code of a program, before `main` is called
 pub record IsAtStart (typed : Typed) (turns : ℕ) (s : State) : Type 0 where

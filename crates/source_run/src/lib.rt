@@ -3,8 +3,9 @@
 //! It stands on `lower_tac`, by whose law the run of a program's three-address code is the run of the program, on `tac_engine`, which makes the steps of the
 //! code, and on `source_start`, which has the memory with which a program starts.
 //!
-//! Not said: that Memory comes only for want of memory; it comes as well after 2^64 - 1 steps, and where the parts say `NoMemory` for what is in no program
-//! that was checked. Nor what the counts are after ReadFault, WriteFault and Memory. Each byte is written by a call of its own.
+//! A run is over some time, whatever its input: its code is steady, so its turns bound its steps.
+//!
+//! Not said: what the counts are after ReadFault, WriteFault and Memory. Each byte is written by a call of its own.
 #![tactic(auto)]
 
 mod end;

@@ -1,6 +1,6 @@
 //! The runner of a program.
 
-ghost use Rattle.std.specs.Prelude.{◌≡◌, ◌<◌, ◌^◌, IfOk, length};
+ghost use Rattle.std.specs.Prelude.{◌≡◌, IfOk};
 ghost use Rattle.c_typed.specs.Programs.{program_data};
 ghost use Rattle.lower_tac.specs.Statements.{lowered};
 ghost use Rattle.source_run.specs.Fresh.{no_counts as counts_of_none};
@@ -10,6 +10,7 @@ ghost use Rattle.source_run.specs.Streams.{streams};
 ghost use Rattle.source_start.specs.Fits.{StartsFit};
 ghost use Rattle.tac_engine.specs.View.{state_of};
 ghost use Rattle.tac_ir.specs.Code.{code_of};
+ghost use Rattle.tac_ir.specs.Steady.{AllSteady};
 
 use crate::end::RunEnd;
 use crate::stepping::{Advance, make_step};
@@ -37,8 +38,7 @@ fn answer(end: Final, turns: u64) -> RunEnd
 
 /// The counts of a program of which nothing was done.
 fn counts_at_start(alloc: Global, p: &Typed) -> Result<Counts, NoMemory>
-    requires functions { length p.now.functions < 2 ^ 32 }
-    requires starts { StartsFit (program_data p.now) }
+    requires { StartsFit (program_data p.now) }
     ensures { IfOk result (λ counts. counts ≡ counts_of_none (program_data p.now)) }
 {
     match no_counts(alloc, p) {
@@ -86,8 +86,7 @@ fn finish(
     end: Final,
     turns: u64,
 ) -> RunEnd
-    requires functions { length types.now.functions < 2 ^ 32 }
-    requires starts { StartsFit (program_data types.now) }
+    requires { StartsFit (program_data types.now) }
     ensures { HasFinished (program_data types.now) (state_of engine.now).core.counts kept.new end turns result }
 {
     match counts(alloc, types.typed(), &engine.room.counts) {
@@ -110,8 +109,8 @@ fn run_engine<I: Source, O: Sink>(
     turns: u64,
 ) -> RunEnd
     requires start { IsAtStart types.now turns (state_of engine.old) }
-    requires functions { length types.now.functions < 2 ^ 32 }
     requires starts { StartsFit (program_data types.now) }
+    requires steady { AllSteady (lowered (program_data types.now)).routines }
     ensures { RunGives (program_data types.now) turns
         (streams (I.left input.old) (I.faults input.old) (O.written out.old) (O.faults out.old))
         (streams (I.left input.new) (I.faults input.new) (O.written out.new) (O.faults out.new)) kept.new result }
@@ -125,7 +124,7 @@ fn run_engine<I: Source, O: Sink>(
         Ok(Moved::Puts(_)) | Ok(Moved::Gets) => unreachable!(),
         Err(want) => return RunEnd::Memory(want),
     }
-    for _ in 0..u64::MAX {
+    loop {
         match make_step(alloc, engine, input, out) {
             Advance::Goes | Advance::Wrote(_) | Advance::Read => {}
             Advance::Over(end) => return finish(alloc, types, kept, engine, end, turns),
@@ -134,8 +133,6 @@ fn run_engine<I: Source, O: Sink>(
             Advance::Memory(want) => return RunEnd::Memory(want),
         }
     }
-    // No run makes so many steps in practice.
-    RunEnd::Memory(NoMemory::unearned())
 }
 
 /// Runs the code of a program.
@@ -149,8 +146,8 @@ fn run_code<'a, I: Source, O: Sink>(
     turns: u64,
 ) -> RunEnd
     requires code { code_of code.now ≡ lowered (program_data types.now) }
-    requires functions { length types.now.functions < 2 ^ 32 }
     requires starts { StartsFit (program_data types.now) }
+    requires steady { AllSteady (lowered (program_data types.now)).routines }
     ensures { RunGives (program_data types.now) turns
         (streams (I.left input.old) (I.faults input.old) (O.written out.old) (O.faults out.old))
         (streams (I.left input.new) (I.faults input.new) (O.written out.new) (O.faults out.new)) kept.new result }
@@ -171,18 +168,21 @@ pub struct Runner<'a> {
 }
 
 impl<'a> Runner<'a> {
-    ghost use Rattle.std.specs.Prelude.{◌≡◌, ◌<◌, ◌≤◌, ◌^◌, IfOk, IsSome, Some, length};
+    ghost use Rattle.std.specs.Prelude.{◌≡◌, ◌<◌, ◌≤◌, ◌^◌, IfOk, IsSome, Some};
     ghost use Rattle.c_typed.specs.declared.program.Typed.{Typed};
     ghost use Rattle.c_typed.specs.Programs.{program_data};
+    ghost use Rattle.lower_tac.specs.Asked.{asked_by_functions};
     ghost use Rattle.source_run.specs.Fresh.{IsFresh, no_counts};
     ghost use Rattle.source_run.specs.RunGives.{RunGives};
+    ghost use Rattle.source_run.specs.Starting.{IsSteadyProgram};
     ghost use Rattle.source_run.specs.Streams.{streams};
     ghost use Rattle.source_start.specs.Fits.{StartsFit};
+    ghost use Rattle.source_values.specs.Rows.{TypesAreSmall};
 
     /// A runner of the program, with counts that are all 0.
     pub fn new(alloc: Global, p: &'a Typed) -> Result<Runner<'a>, NoMemory>
-        requires functions { length p.now.functions < 2 ^ 32 }
         requires starts { StartsFit (program_data p.now) }
+        requires small { TypesAreSmall (program_data p.now) }
         ensures fresh { IfOk result (λ runner. IsFresh p.entry.now runner) }
         ensures zero { IfOk result (λ runner. runner.counts ≡ no_counts (program_data p.entry.now)) }
     {
@@ -205,12 +205,14 @@ impl<'a> Runner<'a> {
         out: &mut O,
         turns: u64,
     ) -> RunEnd
-        requires functions { length self.old.types.functions < 2 ^ 32 }
         requires starts { StartsFit (program_data self.old.types) }
+        requires steady { IsSteadyProgram (program_data self.old.types) }
+        requires asked { asked_by_functions (program_data self.old.types).functions < 2 ^ 32 }
         ensures { RunGives (program_data self.old.types) turns
             (streams (I.left input.old) (I.faults input.old) (O.written out.old) (O.faults out.old))
             (streams (I.left input.new) (I.faults input.new) (O.written out.new) (O.faults out.new)) self.new.counts result }
     {
+        self.types.are_small();
         match lower(alloc, self.types.typed()) {
             Ok(code) => run_code(
                 alloc,
@@ -235,8 +237,9 @@ impl<'a> Runner<'a> {
         turns: u64,
     ) -> RunEnd
         requires turns { turns ≤ 10 ^ 18 }
-        requires functions { length self.old.types.functions < 2 ^ 32 }
         requires starts { StartsFit (program_data self.old.types) }
+        requires steady { IsSteadyProgram (program_data self.old.types) }
+        requires asked { asked_by_functions (program_data self.old.types).functions < 2 ^ 32 }
         ensures ended { self.new.ended ≡ Some result }
         ensures again { IsSome self.old.ended → (self.new ≡ self.old) × (input.new ≡ input.old) × (out.new ≡ out.old) }
         ensures gives { (p : Typed) → IsFresh p self.old → RunGives (program_data p) turns

@@ -4,6 +4,7 @@ ghost use Rattle.std.specs.Prelude.{◌≡◌, [], ◌∷◌, MatchResult};
 ghost use Rattle.lay_base.specs.Known.{Appends, Rose};
 ghost use Rattle.source_run.specs.Advances.{AdvanceGives, Reads, WritesNone};
 ghost use Rattle.source_run.specs.Streams.{streams};
+ghost use Rattle.tac_engine.specs.Rooms.{NextHasRoom};
 ghost use Rattle.tac_engine.specs.View.{state_of};
 
 use block_memory::Value;
@@ -59,6 +60,7 @@ pub(crate) fn make_step<I: Source, O: Sink>(
     input: &mut I,
     out: &mut O,
 ) -> Advance
+    requires { NextHasRoom (state_of engine.old).more (state_of engine.old) }
     ensures { AdvanceGives (state_of engine.old) (state_of engine.new)
         (streams (I.left input.old) (I.faults input.old) (O.written out.old) (O.faults out.old))
         (streams (I.left input.new) (I.faults input.new) (O.written out.new) (O.faults out.new)) result }

@@ -1,31 +1,14 @@
 -- The last block of memory is that of an object.
-use Rattle.std.proofs.Common.{◌≡◌, refl, ap, ◌∙◌, ℕ, ◌+◌, true, false, List, [], ◌∷◌, ◌++◌, length, drop, fold, replicate, arith, append-nil}
+use Rattle.std.proofs.Common.{◌≡◌, refl, ap, ◌∙◌, ℕ, ◌+◌, List, [], ◌∷◌, ◌++◌, length, drop, fold, replicate, arith, append-nil}
 use Rattle.std.proofs.lemmas.List.{length-replicate, drop_all}
 use Rattle.memory_words.specs.declared.cell_words.cell.Cell.{Cell}
 use Rattle.memory_words.specs.declared.cell_words.cell.Cell.TheVariants.{Byte, Empty}
 use Rattle.block_memory.specs.declared.kinds.BlockKind.{BlockKind}
-use Rattle.block_memory.specs.Blocks.{Memory, Block, Contents, living, ended, block, is_live, lives_in, size, size_in, overwritten, with_cells}
+use Rattle.block_memory.specs.Blocks.{Memory, Block, Contents, living, block, size, size_in, overwritten, with_cells}
 use Rattle.block_memory.specs.Lifetimes.{with_block}
 use Rattle.c_meaning.specs.Program.{cells_of}
 use Rattle.c_typed.specs.declared.program.Initial.{Initial}
-use Rattle.block_memory.specs.RunWorlds.Worlds.{live_in}
 use Rattle.source_start.specs.Writing.{with_all}
-
--- ---- the bytes that live in a block
-
-living_size : (c : Contents) → lives_in c ≡ true → live_in c ≡ size_in c
-living_size (living cells) e = refl
-living_size (ended n) e = cc
-
-ended_size : (c : Contents) → lives_in c ≡ false → live_in c ≡ 0
-ended_size (living cells) e = cc
-ended_size (ended n) e = refl
-
-pub living_bytes : (m : Memory) (b : ℕ) → is_live m b ≡ true → live_in (block m b).contents ≡ size m b
-living_bytes m b = living_size (block m b).contents
-
-pub ended_bytes : (m : Memory) (b : ℕ) → is_live m b ≡ false → live_in (block m b).contents ≡ 0
-ended_bytes m b = ended_size (block m b).contents
 
 -- ---- the block behind the others
 

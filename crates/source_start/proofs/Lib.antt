@@ -1,4 +1,5 @@
 pub mod PointerPut
+pub mod Bytes
 pub mod LastBlock
 pub mod NoCounts
 pub mod Filled

@@ -63,7 +63,7 @@ length_bytes : (count v : ℕ) → length (bytes_of count v) ≡ count
 length_bytes zero v = refl
 length_bytes (suc count) v = ap suc (length_bytes count (v / 256))
 
-length_value : (x : InitialValue) → length (cells_of x) ≡ value_bytes x
+pub length_value : (x : InitialValue) → length (cells_of x) ≡ value_bytes x
 length_value (V.Number kind v) = length_bytes (width kind) v
 length_value (V.Address type object at) = refl
 length_value (V.Function type f) = refl
@@ -77,7 +77,7 @@ keeps_life : (c : Contents) (at : ℕ) (new : List Cell) → lives_in (overwritt
 keeps_life (living all) at new = refl
 keeps_life (ended n) at new = refl
 
-keeps_size : (c : Contents) (at : ℕ) (new : List Cell) → at + length new ≤ size_in c → size_in (overwritten c at new) ≡ size_in c
+pub keeps_size : (c : Contents) (at : ℕ) (new : List Cell) → at + length new ≤ size_in c → size_in (overwritten c at new) ≡ size_in c
 keeps_size (living all) at new h = simp (length-append, length-take, length-drop) (omega arith)
 keeps_size (ended n) at new h = refl
 

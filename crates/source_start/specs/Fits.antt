@@ -25,8 +25,8 @@ pub record IsFitValue (p : ProgramData) (o : Object) (i : Initial) : Type 0 wher
 abbrev pub object_bytes : ProgramData → ℕ
 object_bytes p = fold (λ n o. n + object_size p o) 0 p.objects
 
--- each first value fits into its object, the loops of a function can be counted in 32 bits, and the bytes of all objects in 64
+-- each first value fits into its object, the loops of a function can be counted in 32 bits, and all objects have few bytes
 pub record StartsFit (p : ProgramData) : Type 0 where
   pub values : All (λ o. All (IsFitValue p o) (none_or o.initial)) p.objects
   pub loops : All (λ f. loops_of f < 2 ^ 32 - 1) p.functions
-  pub bytes : object_bytes p < 2 ^ 64
+  pub bytes : object_bytes p ≤ 2 ^ 24

@@ -14,11 +14,11 @@ use source_state::Counters;
 use std::alloc::Global;
 
 /// How many loops the function of that number has.
-pub(crate) fn loops_at(p: &Typed, f: u32) -> u32
+pub(crate) fn loops_at(p: &Typed, f: usize) -> u32
     requires { loops_at (program_data p.now) f < 2 ^ 32 }
     ensures { result ≡ loops_at (program_data p.now) f }
 {
-    match p.functions.get(f as usize) {
+    match p.functions.get(f) {
         None => 0,
         Some(f) => loops_of(f),
     }
@@ -56,20 +56,20 @@ pub fn no_counts(alloc: Global, p: &Typed) -> Result<Counters, NoMemory>
 }
 
 /// How often a function was entered.
-pub(crate) fn entry(counters: &Counters, f: u32) -> u64
+pub(crate) fn entry(counters: &Counters, f: usize) -> u64
     ensures { result ≡ entry_in (counting_of counters.now) f }
 {
-    match counters.entries.get(f as usize) {
+    match counters.entries.get(f) {
         Some(n) => *n,
         None => 0,
     }
 }
 
 /// How often the body of a loop began.
-pub(crate) fn begin(counters: &Counters, f: u32, l: u32) -> u64
+pub(crate) fn begin(counters: &Counters, f: usize, l: u32) -> u64
     ensures { result ≡ begin_in (counting_of counters.now) f l }
 {
-    match counters.begins.get(f as usize) {
+    match counters.begins.get(f) {
         Some(loops) => match loops.get(l as usize) {
             Some(n) => *n,
             None => 0,

@@ -3,8 +3,6 @@
 //!
 //! It stands on `source_values`, which has the sizes of objects, on `source_state`, whose `Room` it makes, and on `c_typed`, whose counts it
 //! gives.
-//!
-//! Not said: that `NoMemory` comes only for want of memory: it comes as well where a store has as many blocks or bytes as it can number.
 #![tactic(auto)]
 
 mod beginning;

@@ -1,12 +1,12 @@
 //! The blocks of the objects.
 
-ghost use Rattle.std.specs.Prelude.{◌≡◌, ◌<◌, ◌^◌, ◌∷◌, [], ◌++◌, All, IfOk, length, replicate};
+ghost use Rattle.std.specs.Prelude.{◌≡◌, ◌<◌, ◌≤◌, ◌+◌, ◌^◌, ◌∷◌, [], ◌++◌, All, IfOk, replicate};
 ghost use Rattle.memory_words.specs.declared.cell_words.cell.Cell.TheVariants.{Byte};
-ghost use Rattle.block_memory.specs.Blocks.{block, living};
+ghost use Rattle.block_memory.specs.Blocks.{living};
 ghost use Rattle.block_memory.specs.View.{memory_of};
-ghost use Rattle.c_meaning.specs.Program.{initial_memory, none_or, object_block, object_kind};
+ghost use Rattle.c_meaning.specs.Program.{initial_memory, none_or, object_block, object_kind, object_size};
 ghost use Rattle.c_typed.specs.Programs.{program_data};
-ghost use Rattle.block_memory.specs.RunWorlds.Worlds.{live_bytes, live_in};
+ghost use Rattle.block_memory.specs.RunWorlds.Worlds.{live_bytes};
 ghost use Rattle.source_start.specs.Fits.{IsFitValue, StartsFit};
 ghost use Rattle.source_start.specs.Writing.{AddGives};
 
@@ -27,24 +27,11 @@ fn object_kind(text: bool) -> BlockKind
     }
 }
 
-/// The bytes that live in a block.
-#[tactic(auto, using(crate::proofs::LastBlock::living_bytes, crate::proofs::LastBlock::ended_bytes))]
-fn live_in(store: &Store, number: u64) -> u64
-    ensures value { result ≡ live_in (block (memory_of store.now) number).contents }
-    ensures small { result < 2 ^ 32 }
-{
-    if store.live(number) {
-        u64::from(store.size(number))
-    } else {
-        0
-    }
-}
-
 /// A new block of so many bytes that are 0: its number.
 #[tactic(auto, using(crate::proofs::LastBlock::zeroed_last, crate::proofs::LastBlock::size_of_last))]
 fn add_zeros(alloc: Global, store: &mut Store, size: u32, kind: BlockKind) -> Result<u64, NoMemory>
-    ensures gives { IfOk result (AddGives (memory_of store.old) (memory_of store.new) (record { kind = kind; contents = living (replicate size (Byte 0)) })) }
-    ensures few { IfOk result (λ b. b < 2 ^ 32) }
+    requires { live_bytes (memory_of store.old) + size < 2 ^ 29 }
+    ensures { IfOk result (AddGives (memory_of store.old) (memory_of store.new) (record { kind = kind; contents = living (replicate size (Byte 0)) })) }
 {
     let block = store.alloc(alloc, size, kind)?;
     store.set_zero(block, size);
@@ -59,11 +46,10 @@ fn add_object(
     types: &Types<'_>,
     o: &Object,
 ) -> Result<u64, NoMemory>
-    requires { All (IsFitValue (program_data types.now) o.now) (none_or o.now.initial) }
+    requires fits { All (IsFitValue (program_data types.now) o.now) (none_or o.now.initial) }
+    requires few { live_bytes (memory_of store.old) + object_size (program_data types.now) o.now < 2 ^ 29 }
     ensures memory { IfOk result (λ n. memory_of store.new ≡ memory_of store.old ++ object_block (program_data types.now) o.now ∷ []) }
-    ensures live { IfOk result (λ n. n ≡ live_in (object_block (program_data types.now) o.now).contents) }
-    ensures small { IfOk result (λ n. n < 2 ^ 32) }
-    ensures few { IfOk result (λ n. length (memory_of store.old) < 2 ^ 32) }
+    ensures live { IfOk result (λ n. n ≡ object_size (program_data types.now) o.now) }
 {
     let Some(all) = &o.initial else {
         add_zeros(alloc, store, 0, object_kind(o.text))?;
@@ -72,18 +58,20 @@ fn add_object(
     let size = types.row(o.ty).size;
     let block = add_zeros(alloc, store, size, object_kind(o.text))?;
     write_all(store, block, all.as_slice());
-    Ok(live_in(store, block))
+    Ok(u64::from(size))
 }
 
-/// A new block for each object, with what it holds at first: how many bytes live in them.
+/// In the memory of no block a new one for each object, with what it holds at first: how many bytes live in them.
 pub(crate) fn add_objects(
     alloc: Global,
     store: &mut Store,
     types: &Types<'_>,
 ) -> Result<u64, NoMemory>
-    requires { StartsFit (program_data types.now) }
-    ensures memory { IfOk result (λ n. memory_of store.new ≡ memory_of store.old ++ initial_memory (program_data types.now)) }
+    requires fits { StartsFit (program_data types.now) }
+    requires empty { memory_of store.old ≡ [] }
+    ensures memory { IfOk result (λ n. memory_of store.new ≡ initial_memory (program_data types.now)) }
     ensures live { IfOk result (λ n. n ≡ live_bytes (initial_memory (program_data types.now))) }
+    ensures few { IfOk result (λ n. n ≤ 2 ^ 24) }
 {
     let mut live: u64 = 0;
     for o in types.typed().objects.as_slice() {

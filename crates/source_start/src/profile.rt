@@ -1,6 +1,6 @@
 //! The counts of a run in the order of a profile.
 
-ghost use Rattle.std.specs.Prelude.{◌≡◌, ◌<◌, ◌^◌, IfOk, length, map};
+ghost use Rattle.std.specs.Prelude.{◌≡◌, ◌<◌, ◌^◌, IfOk, map};
 ghost use Rattle.c_typed.specs.RunCounts.Counting.{count_at, counts_by, name_at, numbers_below};
 ghost use Rattle.c_typed.specs.RunCounts.Loops.{loops_at};
 ghost use Rattle.c_typed.specs.Programs.{program_data};
@@ -15,10 +15,10 @@ use source_state::Counters;
 use std::alloc::Global;
 
 /// A copy of the name of the function of that number.
-fn name_at(alloc: Global, p: &Typed, f: u32) -> Result<Name, NoMemory>
+fn name_at(alloc: Global, p: &Typed, f: usize) -> Result<Name, NoMemory>
     ensures { IfOk result (λ name. name ≡ name_at (program_data p.now) f) }
 {
-    let name = match p.functions.get(f as usize) {
+    let name = match p.functions.get(f) {
         None => b"",
         Some(f) => f.name.as_slice(),
     };
@@ -27,7 +27,7 @@ fn name_at(alloc: Global, p: &Typed, f: u32) -> Result<Name, NoMemory>
 
 /// How often the bodies of the first loops of a function began.
 #[tactic(auto, using(crate::proofs::Walks::next_number))]
-fn begins(alloc: Global, counters: &Counters, f: u32, count: u32) -> Result<List<u64>, NoMemory>
+fn begins(alloc: Global, counters: &Counters, f: usize, count: u32) -> Result<List<u64>, NoMemory>
     ensures { IfOk result (λ all. all ≡ map (begin_in (counting_of counters.now) f) (numbers_below count)) }
 {
     let mut all = Vec::new(alloc);
@@ -38,7 +38,7 @@ fn begins(alloc: Global, counters: &Counters, f: u32, count: u32) -> Result<List
 }
 
 /// The counts of the function of that number.
-fn count_at(alloc: Global, p: &Typed, counters: &Counters, f: u32) -> Result<FunCount, NoMemory>
+fn count_at(alloc: Global, p: &Typed, counters: &Counters, f: usize) -> Result<FunCount, NoMemory>
     requires { loops_at (program_data p.now) f < 2 ^ 32 }
     ensures { IfOk result (λ count. count ≡
         count_at (entry_in (counting_of counters.now)) (begin_in (counting_of counters.now)) (program_data p.now) f) }
@@ -55,8 +55,7 @@ fn count_at(alloc: Global, p: &Typed, counters: &Counters, f: u32) -> Result<Fun
 /// The counts of each function that the program defines, in the order of a profile.
 #[tactic(auto, using(crate::proofs::FewLoops::few_loops))]
 pub fn counts(alloc: Global, p: &Typed, counters: &Counters) -> Result<Counts, NoMemory>
-    requires functions { length p.now.functions < 2 ^ 32 }
-    requires starts { StartsFit (program_data p.now) }
+    requires { StartsFit (program_data p.now) }
     ensures { IfOk result (λ counts. counts ≡
         counts_by (entry_in (counting_of counters.now)) (begin_in (counting_of counters.now)) (program_data p.now)) }
 {

@@ -31,7 +31,7 @@ fn write_number(store: &mut Store, block: u64, at: u32, kind: IntKind, v: u32)
 }
 
 /// Puts a pointer of a type into a block, where it passes the tests.
-fn write_pointer(store: &mut Store, block: u64, at: u32, type_number: u32, q: Ptr)
+fn write_pointer(store: &mut Store, block: u64, at: u32, type_number: usize, q: Ptr)
     requires { TakesPointer (memory_of store.old) block at }
     ensures { memory_of store.new ≡ with_cells (memory_of store.old) block at (fragments_of type_number q) }
 {
@@ -47,13 +47,7 @@ fn write_initial(store: &mut Store, block: u64, i: &Initial)
     match &i.value {
         InitialValue::Number(kind, v) => write_number(store, block, i.offset, *kind, *v),
         InitialValue::Address(ty, object, at) => {
-            write_pointer(
-                store,
-                block,
-                i.offset,
-                *ty,
-                Ptr::Block(u64::from(*object), *at),
-            );
+            write_pointer(store, block, i.offset, *ty, Ptr::Block(*object as u64, *at));
         }
         InitialValue::Function(ty, f) => {
             write_pointer(store, block, i.offset, *ty, Ptr::Function(*f));

@@ -1,3 +1,4 @@
+pub mod Keeps
 pub mod Steps
 pub mod Counted
 pub mod Within

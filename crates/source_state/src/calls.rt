@@ -17,7 +17,7 @@ const GREATEST_DEPTH: u64 = 100_000;
 
 impl Room {
     /// The body of a loop begins.
-    pub fn begin_body(&mut self, function: u32, number: u64) -> Result<(), Final>
+    pub fn begin_body(&mut self, function: usize, number: u64) -> Result<(), Final>
         ensures { (result, core_of self.new) ≡ begun function number (core_of self.old) }
     {
         if self.turns == 0 {
@@ -29,7 +29,7 @@ impl Room {
     }
 
     /// A function is entered.
-    pub fn enter(&mut self, function: u32) -> Result<Result<(), Final>, NoMemory>
+    pub fn enter(&mut self, function: usize) -> Result<Result<(), Final>, NoMemory>
         ensures { IfOk result (λ r. (r, core_of self.new) ≡ enter function (core_of self.old)) }
     {
         if self.turns == 0 {

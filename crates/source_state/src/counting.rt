@@ -22,17 +22,16 @@ fn raise(counts: &mut Vec<u64>, number: usize)
 
 impl Counters {
     /// A function is entered.
-    pub fn enter(&mut self, function: u32)
+    pub fn enter(&mut self, function: usize)
         ensures { counting_of self.new ≡ with_entry (counting_of self.old) function }
     {
-        raise(&mut self.entries, function as usize);
+        raise(&mut self.entries, function);
     }
 
     /// The body of a loop of a function begins.
-    pub fn begin(&mut self, function: u32, number: u64)
+    pub fn begin(&mut self, function: usize, number: u64)
         ensures { counting_of self.new ≡ with_begin (counting_of self.old) function number }
     {
-        let function = function as usize;
         if function < self.begins.len() {
             raise(&mut self.begins[function], number as usize);
         }

@@ -4,8 +4,6 @@
 //! It stands on `block_memory`, whose store it has, and on `c_meaning`, whose world and frames these are. It promises that its calls do what the definitions
 //! say; and that what those do is what the parts of a run in `c_meaning` do, whatever the trace is, and that what is counted stays what the trace tells
 //! (`proofs/Steps/`).
-//!
-//! Not said: that `NoMemory` comes only for want of memory.
 #![tactic(auto)]
 
 mod calls;

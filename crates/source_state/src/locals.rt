@@ -32,6 +32,7 @@ impl Room {
     }
 
     /// Stores a value in memory.
+    #[tactic(auto, using(crate::proofs::Keeps::number_kept, crate::proofs::Keeps::pointer_kept))]
     pub fn store(&mut self, p: Ptr, access: Access, v: Value) -> Result<(), UndefinedKind>
         ensures { Changes result (core_of self.old) (core_of self.new)
             (changed (store_in (core_of self.old).memory p access v) (core_of self.old)) }

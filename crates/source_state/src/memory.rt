@@ -1,13 +1,15 @@
 //! What is done to memory.
 
-ghost use Rattle.std.specs.Prelude.{◌≡◌, ◌<◌, ◌^◌, IfOk, replicate, true};
+ghost use Rattle.std.specs.Prelude.{◌≡◌, ◌<◌, ◌≤◌, ◌+◌, ◌-◌, ◌^◌, IfOk, length, replicate, true};
 ghost use Rattle.memory_words.specs.declared.cell_words.cell.Cell.TheVariants.{Empty};
+ghost use Rattle.block_memory.specs.Blocks.{size as size_in};
 ghost use Rattle.block_memory.specs.RunWorlds.LibraryCalls.{is_same_place};
 ghost use Rattle.source_state.specs.RoomView.{core_of};
 ghost use Rattle.source_state.specs.Steps.Cores.{Changes};
 ghost use Rattle.source_state.specs.Steps.Locals.{emptied, slot};
 ghost use Rattle.source_state.specs.Steps.Memories.{allocate, compare, copy, copy_record, end, fill, free, freed_size, living_size, make, put_cells, with_text};
 ghost use Rattle.source_state.specs.Steps.Memories.{zeroed};
+ghost use Rattle.source_state.specs.Steps.Rooms.{HasRoom};
 
 use crate::ends::Final;
 use crate::room::Room;
@@ -30,19 +32,20 @@ fn is_same_place(to: Ptr, from: Ptr) -> bool
 }
 
 impl Room {
-    /// A new block of so many bytes: its number, or the end of the run where there is no room for it.
+    /// A new block of so many bytes: its number, or the end of the run where there is no room for it. With those that live they are counted in
+    /// 64 bits.
+    #[tactic(auto, using(crate::proofs::Keeps::made))]
     pub fn make(
         &mut self,
         alloc: Global,
         size: u64,
         kind: BlockKind,
     ) -> Result<Result<u64, Final>, NoMemory>
+        requires { size < 2 ^ 64 - 2 ^ 32 }
         ensures makes { IfOk result (λ r. (r, core_of self.new) ≡ make size kind (core_of self.old)) }
         ensures small { IfOk result (λ r. IfOk r (λ b. size < 2 ^ 32)) }
     {
-        let Some(counted) = self.live.checked_add(size) else {
-            return Err(NoMemory::unearned());
-        };
+        let counted = self.live + size;
         if counted > GREATEST_LIVE {
             return Ok(Err(Final::Room(RoomKind::Live, counted)));
         }
@@ -63,6 +66,7 @@ impl Room {
     }
 
     /// The lifetime of a block ends.
+    #[tactic(auto, using(crate::proofs::Keeps::ended))]
     pub fn end(&mut self, block: u64)
         ensures { core_of self.new ≡ end block (core_of self.old) }
     {
@@ -82,6 +86,7 @@ impl Room {
     }
 
     /// Ends an allocation.
+    #[tactic(auto, using(crate::proofs::Keeps::freed))]
     pub fn free(&mut self, p: Ptr) -> Result<(), UndefinedKind>
         ensures { Changes result (core_of self.old) (core_of self.new) (free p (core_of self.old)) }
     {
@@ -96,6 +101,7 @@ impl Room {
     }
 
     /// Copies cells as they are. That the ranges overlap may be allowed.
+    #[tactic(auto, using(crate::proofs::Keeps::copy_kept))]
     pub fn copy(
         &mut self,
         to: Ptr,
@@ -109,6 +115,7 @@ impl Room {
     }
 
     /// Puts the low byte of a word into so many cells.
+    #[tactic(auto, using(crate::proofs::Keeps::fill_kept))]
     pub fn fill(&mut self, to: Ptr, byte: u32, count: u32) -> Result<(), UndefinedKind>
         ensures { Changes result (core_of self.old) (core_of self.new) (fill to byte count (core_of self.old)) }
     {
@@ -135,67 +142,54 @@ impl Room {
         }
     }
 
-    /// Makes so many cells of a block, from its first one on, bytes that are zero. `NoMemory` comes where it has fewer, which is so in no
-    /// program that was checked.
-    #[tactic(auto, using(crate::proofs::Within::zeroed_within))]
-    pub fn zero(&mut self, block: u64, size: u32) -> Result<(), NoMemory>
-        ensures { IfOk result (λ u. core_of self.new ≡ zeroed true block size (core_of self.old)) }
+    /// Makes so many cells of a block, from its first one on, bytes that are zero.
+    #[tactic(auto, using(crate::proofs::Within::zeroed_within, crate::proofs::Keeps::zeros_kept))]
+    pub fn zero(&mut self, block: u64, count: u32)
+        requires { count ≤ size_in (core_of self.old).memory block }
+        ensures { core_of self.new ≡ zeroed true block count (core_of self.old) }
     {
-        if size > self.store.size(block) {
-            return Err(NoMemory::unearned());
-        }
-        self.store.set_zero(block, size);
-        Ok(())
+        self.store.set_zero(block, count);
     }
 
-    /// Puts bytes into the cells of a block from an offset on. `NoMemory` comes where they do not fit, which is so in no program that was
-    /// checked.
-    #[tactic(auto, using(crate::proofs::Within::text_within))]
-    pub fn write(&mut self, block: u64, at: u32, bytes: &[u8]) -> Result<(), NoMemory>
-        ensures { IfOk result (λ u. core_of self.new ≡ with_text block at bytes.now (core_of self.old)) }
+    /// Puts bytes into the cells of a block from an offset on.
+    #[tactic(auto, using(crate::proofs::Within::text_within, crate::proofs::Keeps::text_kept))]
+    pub fn write(&mut self, block: u64, at: u32, bytes: &[u8])
+        requires { at + length bytes.now ≤ size_in (core_of self.old).memory block }
+        ensures { core_of self.new ≡ with_text block at bytes.now (core_of self.old) }
     {
-        let size = self.store.size(block) as usize;
-        if bytes.len() > size || at as usize > size - bytes.len() {
-            return Err(NoMemory::unearned());
-        }
         self.store.set_bytes(block, at, bytes);
-        Ok(())
     }
 
-    /// Makes so many cells of a block hold nothing. `NoMemory` comes where it has fewer, which is so in no program that was checked.
-    #[tactic(auto, using(crate::proofs::Within::empty_within))]
-    fn empty(&mut self, block: u64, size: u32) -> Result<(), NoMemory>
-        ensures { IfOk result (λ u. core_of self.new ≡ put_cells block 0 (replicate size Empty) (core_of self.old)) }
+    /// Makes so many cells of a block hold nothing.
+    #[tactic(auto, using(crate::proofs::Within::empty_within, crate::proofs::Keeps::empty_kept))]
+    fn empty(&mut self, block: u64, count: u32)
+        requires { count ≤ size_in (core_of self.old).memory block }
+        ensures { core_of self.new ≡ put_cells block 0 (replicate count Empty) (core_of self.old) }
     {
-        if size > self.store.size(block) {
-            return Err(NoMemory::unearned());
-        }
-        self.store.set_empty(block, size);
-        Ok(())
+        self.store.set_empty(block, count);
     }
 
     /// The declaration of a local of so many bytes is reached, without an initializer.
-    pub fn empty_local(&mut self, local: u32, size: u32) -> Result<(), NoMemory>
-        ensures { IfOk result (λ u. core_of self.new ≡ emptied local size (slot (core_of self.old) local) (core_of self.old)) }
+    pub fn empty_local(&mut self, local: u32, count: u32)
+        requires { HasRoom count (slot (core_of self.old) local) (core_of self.old).memory }
+        ensures { core_of self.new ≡ emptied local count (slot (core_of self.old) local) (core_of self.old) }
     {
         match self.slot(local) {
-            Some(Slot::InBlock(Some(block))) => self.empty(block, size),
-            Some(Slot::ByName(_)) => {
-                self.set_slot(local, Slot::ByName(None));
-                Ok(())
-            }
-            Some(Slot::InBlock(None)) | None => Ok(()),
+            Some(Slot::InBlock(Some(block))) => self.empty(block, count),
+            Some(Slot::ByName(_)) => self.set_slot(local, Slot::ByName(None)),
+            Some(Slot::InBlock(None)) | None => {}
         }
     }
 
     /// An allocation of so many bytes, all zero or with nothing that was stored.
-    #[tactic(auto, using(crate::proofs::Within::zeroed_within, crate::proofs::Within::new_size))]
+    #[tactic(auto, using(crate::proofs::Within::zeroed_within, crate::proofs::Within::new_size, crate::proofs::Keeps::zeros_kept))]
     pub fn allocate(
         &mut self,
         alloc: Global,
         size: u64,
         zero: bool,
     ) -> Result<Result<Value, Final>, NoMemory>
+        requires { size < 2 ^ 64 - 2 ^ 32 }
         ensures { IfOk result (λ r. (r, core_of self.new) ≡ allocate size zero (core_of self.old)) }
     {
         match self.make(alloc, size, BlockKind::Heap)? {

@@ -1,5 +1,9 @@
 //! What is kept, and the slots of the locals.
 
+ghost use Rattle.std.specs.Prelude.{◌≡◌, ◌≤◌};
+ghost use Rattle.block_memory.specs.RunWorlds.Worlds.{greatest_live, live_bytes};
+ghost use Rattle.block_memory.specs.View.{memory_of};
+
 use crate::counting::Counters;
 use block_memory::Store;
 use c_meaning::Slot;
@@ -18,10 +22,11 @@ pub struct Room {
     /// How many functions were entered and not left.
     pub depth: u32,
     pub counts: Counters,
+    ghost counted: { live ≡ live_bytes (memory_of store) },
+    ghost few: { live ≤ greatest_live },
 }
 
 impl Room {
-    ghost use Rattle.std.specs.Prelude.{◌≡◌};
     ghost use Rattle.source_state.specs.CountsView.{counting_of};
     ghost use Rattle.source_state.specs.RoomView.{core_of, empty_core};
     ghost use Rattle.source_state.specs.Steps.Locals.{slot, with_slot};
@@ -38,6 +43,16 @@ impl Room {
             depth: 0,
             counts,
         }
+    }
+
+    /// Takes a memory in place of what there was, with the bytes that live in it.
+    pub fn take_store(&mut self, store: Store, live: u64)
+        requires counted { live ≡ live_bytes (memory_of store) }
+        requires few { live ≤ greatest_live }
+        ensures { core_of self.new ≡ record (core_of self.old) { memory = memory_of store; live = live } }
+    {
+        self.store = store;
+        self.live = live;
     }
 
     /// The slot of a local.

@@ -13,7 +13,7 @@ use Rattle.c_typed.specs.declared.program.Typed.{Typed}
 use Rattle.c_typed.specs.Programs.{ProgramData, program_data}
 use Rattle.c_meaning.specs.Program.{type_at}
 use Rattle.source_values.specs.declared.row.TypeRow.{TypeRow}
-use Rattle.source_values.specs.Rows.{AreRows, IsSmall, row_for, row_of, rows_of}
+use Rattle.source_values.specs.Rows.{AreRows, IsSmall, TypesAreSmall, row_for, row_of, rows_of}
 
 -- ---- the first rows
 
@@ -43,9 +43,6 @@ past_is p number h =
     let past : type_at p number ≡ void = ap (λ (o : Option CType). unwrap_or o void) (slice_get_past p.types number h) in
     ap (λ (t : CType). row_for p t number) (sym past)
 
-past_small : (p : ProgramData) (number : ℕ) → length p.types ≤ number → IsSmall (row_of p number)
-past_small p number h = subst IsSmall (past_is p number h) (record { size = omega arith; element = omega arith })
-
 -- ---- a whole table
 
 module _ (p : ProgramData) (rows : List TypeRow) (number : ℕ) (known : AreRows p rows) where
@@ -68,21 +65,23 @@ module _ (p : ProgramData) (rows : List TypeRow) (number : ℕ) (known : AreRows
     | inr past ↦ past_is p number past
   ]
 
-pub all_found : (p : ProgramData) (rows : List TypeRow) (count : ℕ) → count ≡ length p.types → rows ≡ rows_of p count
-    → ((k : ℕ) → k < count → IsSmall (row_of p k)) → AreRows p rows
-all_found p rows count e is small = record {
-  all = rw (← e) is;
-  small = λ k. elim (cases_lt k count) [ inl inside ↦ small k inside | inr past ↦ past_small p k (omega arith) ];
-}
+pub all_found : (p : ProgramData) (rows : List TypeRow) (count : ℕ) → count ≡ length p.types → rows ≡ rows_of p count → TypesAreSmall p → AreRows p rows
+all_found p rows count e is small = record { all = rw (← e) is; small = small }
 
 -- ---- one more row
 
+type_here : (p : Typed) (number : ℕ) (t : Ty) → slice_get p.types number ≡ Some t → type_at (program_data p) number ≡ type_of t
+type_here p number t is =
+    let here : slice_get (map type_of p.types) number ≡ Some (type_of t) = simp (slice_get-map, is) in
+    ap (λ (o : Option CType). unwrap_or o void) here
+
+pub small_here : (p : Typed) (number : ℕ) (t : Ty) → slice_get p.types number ≡ Some t → TypesAreSmall (program_data p)
+    → IsSmall (row_for (program_data p) (type_of t) number)
+small_here p number t is small = subst (λ (t : CType). IsSmall (row_for (program_data p) t number)) (type_here p number t is) (small number)
+
 pub row_here : (p : Typed) (number : ℕ) (t : Ty) (row : TypeRow) → slice_get p.types number ≡ Some t → row ≡ row_for (program_data p) (type_of t) number
     → row ≡ row_of (program_data p) number
-row_here p number t row is e =
-    let here : slice_get (map type_of p.types) number ≡ Some (type_of t) = simp (slice_get-map, is) in
-    let found : type_at (program_data p) number ≡ type_of t = ap (λ (o : Option CType). unwrap_or o void) here in
-    e ∙ ap (λ (t : CType). row_for (program_data p) t number) (sym found)
+row_here p number t row is e = e ∙ ap (λ (t : CType). row_for (program_data p) t number) (sym (type_here p number t is))
 
 pub one_more : (p : ProgramData) (rows more : List TypeRow) (number : ℕ) (row : TypeRow) → row ≡ row_of p number → rows ≡ rows_of p number
     → more ≡ rows ++ row ∷ [] → more ≡ rows_of p (number + 1)

@@ -25,10 +25,11 @@ row_for p t n = record {
 abbrev pub row_of : ProgramData → (type : ℕ) → TypeRow
 row_of p n = row_for p (type_at p n) n
 
--- neither a value of the type nor an element of it passes the greatest size
+-- neither a value of the type nor an element of it passes the greatest size, and its elements are no more than that
 pub record IsSmall (row : TypeRow) : Type 0 where
   pub size : row.size ≤ greatest_size
   pub element : row.element ≤ greatest_size
+  pub length : row.length ≤ greatest_size
 
 -- so it is for each type of a program
 abbrev pub TypesAreSmall : ProgramData → Type 0

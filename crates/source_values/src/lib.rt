@@ -4,8 +4,7 @@
 //! It stands on `c_types` and `c_typed` for sizes and arithmetic, on `memory_words` and `block_memory`, whose values these are, and on `c_meaning`,
 //! whose definitions each of its calls computes.
 //!
-//! `Types::of` answers `NoMemory` too where the size of a type, or of what it points to or its elements are, passes 16,777,216 bytes; that the checker accepts
-//! no program with such a type is not proved here.
+//! `Types::of` takes a program no type of which is larger than the limit of types, nor what one points to; the checker accepts no other.
 #![tactic(auto)]
 
 mod converting;

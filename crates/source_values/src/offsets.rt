@@ -9,12 +9,12 @@ use c_types::{Records, fields_lie_apart, offset_of, records_are_complete};
 
 /// Where a field of a record of the list begins, and 0 where there is no such field.
 #[tactic(auto, using(crate::proofs::Past::no_field, crate::proofs::Past::small_offset))]
-fn offset_in(records: &Records, number: u32, field: u32) -> u32
+fn offset_in(records: &Records, number: usize, field: usize) -> u32
     requires { number < length records.now }
     ensures value { result ≡ offset_of (records_of records.now) number field }
     ensures small { result ≤ greatest_size }
 {
-    if field as usize >= records.get(number).fields.len() {
+    if field >= records.get(number).fields.len() {
         return 0;
     }
     fields_lie_apart(records);
@@ -24,7 +24,7 @@ fn offset_in(records: &Records, number: u32, field: u32) -> u32
 
 /// Where a field of a record begins, and 0 where there is no such field.
 #[tactic(auto, using(crate::proofs::Past::no_record))]
-pub fn offset(records: &Records, number: u32, field: u32) -> u32
+pub fn offset(records: &Records, number: usize, field: usize) -> u32
     ensures value { result ≡ offset_of (records_of records.now) number field }
     ensures small { result ≤ greatest_size }
 {

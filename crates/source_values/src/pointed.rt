@@ -14,10 +14,10 @@ use c_types::{Ty, same};
 
 /// The type with that number, where there is one.
 #[tactic(auto, using(crate::proofs::Past::type_found))]
-fn type_at<'a>(typed: &'a Typed, number: u32) -> Option<&'a Ty>
+fn type_at<'a>(typed: &'a Typed, number: usize) -> Option<&'a Ty>
     ensures { type_if_any (option_copied result) ≡ type_at (program_data typed.now) number }
 {
-    typed.types.get(number as usize)
+    typed.types.get(number)
 }
 
 fn is_void(t: &Ty) -> bool
@@ -30,7 +30,7 @@ fn is_void(t: &Ty) -> bool
 }
 
 /// Whether a type is the one with that number.
-fn is_type(typed: &Typed, t: &Ty, number: u32) -> bool
+fn is_type(typed: &Typed, t: &Ty, number: usize) -> bool
     ensures { result ≡ same_type (type_of t.now) (type_at (program_data typed.now) number) }
 {
     match type_at(typed, number) {
@@ -40,7 +40,7 @@ fn is_type(typed: &Typed, t: &Ty, number: u32) -> bool
 }
 
 /// Whether a type is that of pointers to the type with that number.
-fn is_pointer_to(typed: &Typed, t: &Ty, number: u32) -> bool
+fn is_pointer_to(typed: &Typed, t: &Ty, number: usize) -> bool
     ensures { result ≡ same_type (type_of t.now) (pointer_to (type_at (program_data typed.now) number)) }
 {
     match t {
@@ -50,7 +50,7 @@ fn is_pointer_to(typed: &Typed, t: &Ty, number: u32) -> bool
 }
 
 /// Whether the type with a number points to the type with another.
-pub fn points_to(typed: &Typed, pointer: u32, to: u32) -> bool
+pub fn points_to(typed: &Typed, pointer: usize, to: usize) -> bool
     ensures { result ≡ same_type (type_at (program_data typed.now) pointer) (pointer_to (type_at (program_data typed.now) to)) }
 {
     match type_at(typed, pointer) {

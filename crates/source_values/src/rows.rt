@@ -6,7 +6,7 @@ ghost use Rattle.c_types.specs.Views.{type_of};
 ghost use Rattle.c_typed.specs.Constants.{kind_of};
 ghost use Rattle.c_typed.specs.Programs.{ProgramData, program_data};
 ghost use Rattle.c_meaning.specs.Program.{access_of};
-ghost use Rattle.source_values.specs.Rows.{AreRows, IsSmall, row_for};
+ghost use Rattle.source_values.specs.Rows.{AreRows, IsSmall, TypesAreSmall, row_for};
 ghost use Rattle.source_values.specs.Sorts.{sort_of};
 
 use crate::row::{Sort, TypeRow};
@@ -16,9 +16,6 @@ use c_typed::Typed;
 use c_types::{IntKind, Ty};
 use lay_base::{NoMemory, push};
 use std::alloc::Global;
-
-/// The greatest size of a type, in bytes.
-const GREATEST_SIZE: u64 = 16_777_216;
 
 fn sort(t: &Ty) -> Sort
     ensures { result ≡ sort_of (type_of t.now) }
@@ -31,7 +28,7 @@ fn sort(t: &Ty) -> Sort
     }
 }
 
-fn access(t: &Ty, number: u32) -> Access
+fn access(t: &Ty, number: usize) -> Access
     ensures { result ≡ access_of (type_of t.now) number }
 {
     match t {
@@ -49,49 +46,44 @@ fn kind(t: &Ty) -> IntKind
     }
 }
 
-/// What is kept of a type with that number. `NoMemory` comes where its size, or that of its elements, passes the greatest, or the
-/// number passes 32 bits.
-fn row_for(typed: &Typed, t: &Ty, index: usize) -> Result<TypeRow, NoMemory>
-    ensures row { IfOk result (λ row. row ≡ row_for (program_data typed.now) (type_of t.now) index) }
-    ensures small { IfOk result IsSmall }
+/// What is kept of a type with that number.
+fn row_for(typed: &Typed, t: &Ty, index: usize) -> TypeRow
+    requires { IsSmall (row_for (program_data typed.now) (type_of t.now) index) }
+    ensures { result ≡ row_for (program_data typed.now) (type_of t.now) index }
 {
-    let size = size(&typed.records, t);
-    let element = element_size(typed, t);
-    if size > GREATEST_SIZE || element > GREATEST_SIZE || index > 0xFFFF_FFFF {
-        return Err(NoMemory::unearned());
-    }
-    Ok(TypeRow {
+    TypeRow {
         sort: sort(t),
-        access: access(t, index as u32),
-        size: size as u32,
-        element: element as u32,
-        length: length(t),
+        access: access(t, index),
+        size: size(&typed.records, t) as u32,
+        element: element_size(typed, t) as u32,
+        length: length(t) as u32,
         kind: kind(t),
-    })
+    }
 }
 
-/// The rows of all types. `NoMemory` comes for want of memory too.
+/// The rows of all types.
 pub fn rows(alloc: Global, typed: &Typed) -> Result<Vec<TypeRow>, NoMemory>
+    requires { TypesAreSmall (program_data typed.now) }
     ensures { IfOk result (λ rows. AreRows (program_data typed.now) rows.items) }
 {
     let mut rows = Vec::new(alloc);
     for (index, t) in typed.types.as_slice().iter().enumerate() {
-        let row = row_for(typed, t, index)?;
+        let row = row_for(typed, t, index);
         push(&mut rows, row)?;
     }
     Ok(rows)
 }
 
 #[inline(always)]
-pub fn row_at(rows: &[TypeRow], number: u32) -> Option<TypeRow>
+pub fn row_at(rows: &[TypeRow], number: usize) -> Option<TypeRow>
     ensures { result ≡ slice_get rows.now number }
 {
-    rows.get(number as usize).copied()
+    rows.get(number).copied()
 }
 
 /// What is kept of `void` with that number.
 #[inline(always)]
-pub fn row_of_void(number: u32) -> TypeRow
+pub fn row_of_void(number: usize) -> TypeRow
     ensures { (p : ProgramData) → result ≡ row_for p void number }
 {
     TypeRow {

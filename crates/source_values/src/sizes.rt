@@ -13,7 +13,7 @@ use c_types::{Records, Ty, records_are_complete, size_of, width};
 
 /// The size of the record with that number, which is 0 past the end.
 #[tactic(auto, using(crate::proofs::Past::no_size, crate::proofs::Past::small_record))]
-fn record_size(records: &Records, number: u32) -> u32
+fn record_size(records: &Records, number: usize) -> u32
     ensures value { result ≡ size_of (records_of records.now) (structure number) }
     ensures small { result ≤ greatest_size }
 {
@@ -25,10 +25,10 @@ fn record_size(records: &Records, number: u32) -> u32
 }
 
 /// The size of an array of so many elements of that size.
-fn array_size(element: u64, length: u32) -> u64
+fn array_size(element: u64, length: u64) -> u64
     ensures { (size : ℕ) → element ≡ min size (2 ^ 64 - 1) → result ≡ min (size * length) (2 ^ 64 - 1) }
 {
-    element.saturating_mul(u64::from(length))
+    element.saturating_mul(length)
 }
 
 /// The size of a type, or `u64::MAX` where it passes that.
@@ -55,7 +55,7 @@ pub fn element_size(typed: &Typed, t: &Ty) -> u64
 }
 
 /// How many elements an array has.
-pub fn length(t: &Ty) -> u32
+pub fn length(t: &Ty) -> u64
     ensures { result ≡ length_of (type_of t.now) }
 {
     match t {

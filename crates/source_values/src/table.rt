@@ -43,9 +43,9 @@ impl<'a> Model for Types<'a> {
 }
 
 impl<'a> Types<'a> {
-    /// The types of a program. `NoMemory` comes for want of memory; where the size of a type, or of what it points to or its elements
-    /// are, passes 16,777,216 bytes, or a type has no number of 32 bits: the checker accepts no program with such a type.
+    /// The types of a program, where no type, nor what it points to or its elements are, passes 16,777,216 bytes.
     pub fn of(alloc: Global, typed: &'a Typed) -> Result<Types<'a>, NoMemory>
+        requires { TypesAreSmall (program_data typed.now) }
         ensures { IfOk result (λ types. types ≡ typed.entry.now) }
     {
         let rows = rows(alloc, typed)?;
@@ -70,7 +70,7 @@ impl<'a> Types<'a> {
     /// What is kept of the type with that number, which is `void` past the end.
     #[tactic(auto, using(crate::proofs::ByNumber::found_is, crate::proofs::ByNumber::found_small, crate::proofs::ByNumber::missing_is))]
     #[inline(always)]
-    pub fn row(&self, number: u32) -> TypeRow
+    pub fn row(&self, number: usize) -> TypeRow
         ensures row { result ≡ row_of (program_data self.now) number }
         ensures small { IsSmall result }
     {
@@ -81,7 +81,7 @@ impl<'a> Types<'a> {
     }
 
     /// Where a field of a record begins (C99 6.7.2.1), by their numbers; 0 where there is no such field.
-    pub fn offset(&self, number: u32, field: u32) -> u32
+    pub fn offset(&self, number: usize, field: usize) -> u32
         ensures value { result ≡ offset_of (program_data self.now).records number field }
         ensures small { result ≤ greatest_size }
     {
@@ -89,7 +89,7 @@ impl<'a> Types<'a> {
     }
 
     /// Whether a function of one type may be called through a pointer of another (C99 6.5.2.2), by their numbers.
-    pub fn is_called_as(&self, pointer: u32, function: u32) -> bool
+    pub fn is_called_as(&self, pointer: usize, function: usize) -> bool
         ensures { result ≡ same_type (type_at (program_data self.now) pointer) (pointer_to (type_at (program_data self.now) function)) }
     {
         points_to(self.typed, pointer, function)

@@ -7,3 +7,8 @@ pub mod CallsSame
 pub mod Alike
 pub mod Remains
 pub mod Onwards
+pub mod Stays
+pub mod Lessening
+pub mod Plain
+pub mod Falling
+pub mod Rooming

@@ -4,6 +4,7 @@ ghost use Rattle.std.specs.Prelude.{◌≡◌, ◌<◌, ◌^◌, IfOk, length, m
 ghost use Rattle.source_state.specs.RoomView.{core_of};
 ghost use Rattle.tac_ir.specs.Running.{empty_slot};
 ghost use Rattle.tac_ir.specs.declared.step.Step.TheVariants as S;
+ghost use Rattle.tac_engine.specs.Rooms.{StepHasRoom};
 ghost use Rattle.tac_engine.specs.Steps.{calls, calls_through, enacted, final_by, main_called, receive, receive_one, returned, started, waiting};
 ghost use Rattle.tac_engine.specs.View.{state_of};
 ghost use Rattle.tac_engine.specs.Ways.{for_calls};
@@ -134,13 +135,13 @@ impl<'a> Engine<'a> {
         alloc: Global,
         to: Option<u32>,
         place: Place,
-        f: u32,
+        f: usize,
         values: &[Value],
     ) -> Comes
         requires { length values.now < 2 ^ 32 }
         ensures { IfOk result (λ m. (m, state_of self.new) ≡ calls to place f values.now (state_of self.old)) }
     {
-        let Some(g) = self.code.routines.get(f as usize) else {
+        let Some(g) = self.code.routines.get(f) else {
             return Ok(undefined(UndefinedKind::Call, place));
         };
         match self.room.enter(f)? {
@@ -156,7 +157,7 @@ impl<'a> Engine<'a> {
         self.enter(alloc, None, NO_PLACE, self.code.main, &[])
     }
 
-    fn call(&mut self, alloc: Global, to: u32, place: Place, f: u32, row: Row) -> Comes
+    fn call(&mut self, alloc: Global, to: u32, place: Place, f: usize, row: Row) -> Comes
         ensures { IfOk result (λ m. (m, state_of self.new) ≡ enacted (S.Call to place f row) (state_of self.old)) }
     {
         match read_row(alloc, &self.room, place, row)? {
@@ -171,7 +172,7 @@ impl<'a> Engine<'a> {
         alloc: Global,
         to: u32,
         place: Place,
-        ty: u32,
+        ty: usize,
         q: Ptr,
         values: &[Value],
     ) -> Comes
@@ -181,7 +182,7 @@ impl<'a> Engine<'a> {
         let Ptr::Function(f) = q else {
             return Ok(undefined(UndefinedKind::Call, place));
         };
-        let Some(g) = self.code.routines.get(f as usize) else {
+        let Some(g) = self.code.routines.get(f) else {
             return Ok(undefined(UndefinedKind::Call, place));
         };
         if !self.types.is_called_as(ty, g.ty) {
@@ -195,7 +196,7 @@ impl<'a> Engine<'a> {
         alloc: Global,
         to: u32,
         place: Place,
-        ty: u32,
+        ty: usize,
         a: Operand,
         row: Row,
     ) -> Comes
@@ -260,7 +261,8 @@ impl<'a> Engine<'a> {
     /// A call or a return, or a step that does anything else.
     #[inline(never)]
     pub(crate) fn enact_call(&mut self, alloc: Global, step: &Step) -> Comes
-        requires { for_calls step.now ≡ true }
+        requires way { for_calls step.now ≡ true }
+        requires room { StepHasRoom step.now (state_of self.old) }
         ensures { IfOk result (λ m. (m, state_of self.new) ≡ enacted step.now (state_of self.old)) }
     {
         match *step {

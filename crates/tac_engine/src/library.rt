@@ -1,6 +1,6 @@
 //! What the library does (C99 7.19.7, 7.20.3, 7.20.4, 7.21), and recognised allocations.
 
-ghost use Rattle.std.specs.Prelude.{◌≡◌, ◌∷◌, [], IfOk};
+ghost use Rattle.std.specs.Prelude.{◌≡◌, ◌<◌, ◌-◌, ◌^◌, ◌∷◌, [], IfOk};
 ghost use Rattle.c_typed.specs.declared.operators.LibraryFunction.TheVariants as L;
 ghost use Rattle.tac_ir.specs.declared.step.Step.TheVariants as S;
 ghost use Rattle.tac_engine.specs.Steps.{copied, enacted, library, made};
@@ -20,6 +20,7 @@ impl<'a> Engine<'a> {
 
     /// A new allocation of so many bytes.
     fn make(&mut self, alloc: Global, t: u32, size: u64, zero: bool) -> Comes
+        requires { size < 2 ^ 64 - 2 ^ 32 }
         ensures { IfOk result (λ m. (m, state_of self.new) ≡ made t size zero (state_of self.old)) }
     {
         match self.room.allocate(alloc, size, zero)? {
@@ -34,7 +35,7 @@ impl<'a> Engine<'a> {
         alloc: Global,
         t: u32,
         place: Place,
-        r: u32,
+        r: usize,
         size: u32,
         zero: bool,
         a: Operand,

@@ -6,6 +6,7 @@ ghost use Rattle.block_memory.specs.declared.run_worlds.value.Value.TheVariants.
 ghost use Rattle.c_meaning.specs.Expressions.{field_in};
 ghost use Rattle.source_values.specs.Ways.{way_to};
 ghost use Rattle.tac_ir.specs.declared.step.Step.TheVariants as S;
+ghost use Rattle.tac_engine.specs.Rooms.{StepHasRoom};
 ghost use Rattle.tac_engine.specs.States.{finding, putting};
 ghost use Rattle.tac_engine.specs.Steps.{enacted};
 ghost use Rattle.tac_engine.specs.View.{state_of};
@@ -25,10 +26,10 @@ use std::alloc::Global;
 use tac_ir::{Operand, Routine, Step};
 
 /// A text of a function, which is empty where none has that number.
-fn text_of(routine: &Routine, number: u32) -> &[u8]
+fn text_of(routine: &Routine, number: usize) -> &[u8]
     ensures { result.now ≡ get_or routine.now.texts number [] }
 {
-    match routine.texts.get(number as usize) {
+    match routine.texts.get(number) {
         Some(text) => text.as_slice(),
         None => &[],
     }
@@ -228,7 +229,8 @@ impl<'a> Engine<'a> {
     /// A step that leads to a place in memory, loads or stores, or one that does anything else.
     #[inline(never)]
     pub(crate) fn enact_place(&mut self, alloc: Global, step: &Step) -> Comes
-        requires { for_places step.now ≡ true }
+        requires way { for_places step.now ≡ true }
+        requires room { StepHasRoom step.now (state_of self.old) }
         ensures { IfOk result (λ m. (m, state_of self.new) ≡ enacted step.now (state_of self.old)) }
     {
         match *step {
@@ -255,11 +257,12 @@ impl<'a> Engine<'a> {
         }
     }
 
-    fn forget(&mut self, x: u32, size: u32) -> Comes
-        ensures { IfOk result (λ m. (m, state_of self.new) ≡ enacted (S.Forget x size) (state_of self.old)) }
+    fn forget(&mut self, x: u32, size: u32) -> Moved
+        requires { StepHasRoom (S.Forget x size) (state_of self.old) }
+        ensures { (result, state_of self.new) ≡ enacted (S.Forget x size) (state_of self.old) }
     {
-        self.room.empty_local(x, size)?;
-        Ok(Moved::Goes)
+        self.room.empty_local(x, size);
+        Moved::Goes
     }
 
     /// So many bytes behind the beginning of a block.
@@ -272,34 +275,31 @@ impl<'a> Engine<'a> {
         }
     }
 
-    fn zeros(&mut self, x: u32, size: u32) -> Comes
-        ensures { IfOk result (λ m. (m, state_of self.new) ≡ enacted (S.Zeros x size) (state_of self.old)) }
+    fn zeros(&mut self, x: u32, size: u32) -> Moved
+        requires { StepHasRoom (S.Zeros x size) (state_of self.old) }
+        ensures { (result, state_of self.new) ≡ enacted (S.Zeros x size) (state_of self.old) }
     {
-        match self.room.slot(x) {
-            Some(Slot::InBlock(Some(block))) => {
-                self.room.zero(block, size)?;
-                Ok(Moved::Goes)
-            }
-            _ => Ok(Moved::Goes),
+        if let Some(Slot::InBlock(Some(block))) = self.room.slot(x) {
+            self.room.zero(block, size);
         }
+        Moved::Goes
     }
 
-    fn text(&mut self, x: u32, by: u32, number: u32) -> Comes
-        ensures { IfOk result (λ m. (m, state_of self.new) ≡ enacted (S.Text x by number) (state_of self.old)) }
+    fn text(&mut self, x: u32, by: u32, number: usize) -> Moved
+        requires { StepHasRoom (S.Text x by number) (state_of self.old) }
+        ensures { (result, state_of self.new) ≡ enacted (S.Text x by number) (state_of self.old) }
     {
-        match self.room.slot(x) {
-            Some(Slot::InBlock(Some(block))) => {
-                self.room.write(block, by, text_of(self.routine, number))?;
-                Ok(Moved::Goes)
-            }
-            _ => Ok(Moved::Goes),
+        if let Some(Slot::InBlock(Some(block))) = self.room.slot(x) {
+            self.room.write(block, by, text_of(self.routine, number));
         }
+        Moved::Goes
     }
 
     /// A step that does something to the block of a local, or one that does anything else.
     #[inline(never)]
     fn enact_block(&mut self, alloc: Global, step: &Step) -> Comes
-        requires { for_blocks step.now ≡ true }
+        requires way { for_blocks step.now ≡ true }
+        requires room { StepHasRoom step.now (state_of self.old) }
         ensures { IfOk result (λ m. (m, state_of self.new) ≡ enacted step.now (state_of self.old)) }
     {
         match *step {
@@ -308,9 +308,9 @@ impl<'a> Engine<'a> {
                 self.room.finish(x);
                 Ok(Moved::Goes)
             }
-            Step::Forget(x, size) => self.forget(x, size),
-            Step::Zeros(x, size) => self.zeros(x, size),
-            Step::Text(x, by, number) => self.text(x, by, number),
+            Step::Forget(x, size) => Ok(self.forget(x, size)),
+            Step::Zeros(x, size) => Ok(self.zeros(x, size)),
+            Step::Text(x, by, number) => Ok(self.text(x, by, number)),
             _ => self.enact_jump(step),
         }
     }

@@ -3,6 +3,7 @@
 ghost use Rattle.std.specs.Prelude.{◌≡◌, ◌<◌, IfOk, length, true};
 ghost use Rattle.source_state.specs.RoomView.{core_of};
 ghost use Rattle.tac_ir.specs.declared.step.Step.TheVariants as S;
+ghost use Rattle.tac_engine.specs.Rooms.{NextHasRoom, StepHasRoom};
 ghost use Rattle.tac_engine.specs.States.{goes, jumped, jumps_if};
 ghost use Rattle.tac_engine.specs.Steps.{enacted, read_given, stepped};
 ghost use Rattle.tac_engine.specs.View.{ready, state_of};
@@ -28,9 +29,9 @@ impl<'a> Engine<'a> {
         ensures { state_of self.new ≡ jumped to (state_of self.old) }
     {
         match to {
-            Target::Left(n) => self.left = n as usize,
-            Target::Label(l) => match self.routine.labels.get(l as usize) {
-                Some(n) => self.left = *n as usize,
+            Target::Left(n) => self.left = n,
+            Target::Label(l) => match self.routine.labels.get(l) {
+                Some(n) => self.left = *n,
                 None => self.left = 0,
             },
         }
@@ -48,7 +49,7 @@ impl<'a> Engine<'a> {
     }
 
     #[inline(always)]
-    fn began(&mut self, function: u32, number: u32) -> Moved
+    fn began(&mut self, function: usize, number: u32) -> Moved
         ensures { (result, state_of self.new) ≡ enacted (S.Began function number) (state_of self.old) }
     {
         match self.room.begin_body(function, u64::from(number)) {
@@ -90,7 +91,8 @@ impl<'a> Engine<'a> {
     /// A step that plain loops do less often, or one that does anything else. Each way on is to where its steps are made.
     #[inline(always)]
     fn enact_next(&mut self, alloc: Global, step: &Step) -> Comes
-        requires { for_next step.now ≡ true }
+        requires way { for_next step.now ≡ true }
+        requires room { StepHasRoom step.now (state_of self.old) }
         ensures { IfOk result (λ m. (m, state_of self.new) ≡ enacted step.now (state_of self.old)) }
     {
         match step {
@@ -107,6 +109,7 @@ impl<'a> Engine<'a> {
     /// A step. What plain loops do most comes first.
     #[inline(always)]
     fn enact(&mut self, alloc: Global, step: &Step) -> Comes
+        requires { StepHasRoom step.now (state_of self.old) }
         ensures { IfOk result (λ m. (m, state_of self.new) ≡ enacted step.now (state_of self.old)) }
     {
         match step {
@@ -168,7 +171,8 @@ impl<'a> Engine<'a> {
     #[inline(never)]
     #[tactic(auto, using(crate::proofs::Leading::first_of))]
     fn step_first(&mut self, alloc: Global) -> Comes
-        requires { length self.old.routine.now.code < self.old.left }
+        requires far { length self.old.routine.now.code < self.old.left }
+        requires room { NextHasRoom (state_of self.old).more (state_of self.old) }
         ensures { IfOk result (λ m. (m, state_of self.new) ≡ stepped (state_of self.old)) }
     {
         let left = self.routine.code.len().saturating_sub(1);
@@ -181,10 +185,12 @@ impl<'a> Engine<'a> {
         }
     }
 
-    /// The next step. What it writes or asks for is left to the caller: `Puts` a byte, `Gets` one.
+    /// The next step, of code that puts no more into the block of a local than it has room for. What it writes or asks for is left to the caller: `Puts` a
+    /// byte, `Gets` one.
     #[tactic(auto, using(crate::proofs::Leading::next))]
     #[inline(always)]
     pub fn step(&mut self, alloc: Global) -> Result<Moved, NoMemory>
+        requires { NextHasRoom (state_of self.old).more (state_of self.old) }
         ensures { IfOk result (λ m. (m, state_of self.new) ≡ stepped (state_of self.old)) }
     {
         let Some(left) = self.left.checked_sub(1) else {

@@ -65,7 +65,7 @@ pub(crate) fn read(room: &Room, a: Operand) -> Result<Value, Final>
         Operand::Word(n) => Ok(Value::Word(n)),
         Operand::Null => Ok(Value::Pointer(Ptr::Null)),
         Operand::Function(f) => Ok(Value::Pointer(Ptr::Function(f))),
-        Operand::Object(n) => Ok(Value::Pointer(Ptr::Block(u64::from(n), 0))),
+        Operand::Object(n) => Ok(Value::Pointer(Ptr::Block(n as u64, 0))),
     }
 }
 
@@ -107,7 +107,7 @@ pub(crate) fn pointer(room: &Room, a: &Operand) -> Option<Ptr>
             Some(Slot::InBlock(Some(block))) => Some(Ptr::Block(block, 0)),
             _ => None,
         },
-        Operand::Object(n) => Some(Ptr::Block(u64::from(*n), 0)),
+        Operand::Object(n) => Some(Ptr::Block(*n as u64, 0)),
         Operand::Word(_) | Operand::Null | Operand::Function(_) => None,
     }
 }

@@ -6,6 +6,7 @@ ghost use Rattle.block_memory.specs.View.{memory_of};
 ghost use Rattle.c_types.specs.Types.{integer};
 ghost use Rattle.tac_ir.specs.Running.{as_number, type_of_sort};
 ghost use Rattle.tac_ir.specs.declared.step.Step.TheVariants as S;
+ghost use Rattle.tac_engine.specs.Rooms.{StepHasRoom};
 ghost use Rattle.tac_engine.specs.States.{found, putting, putting_any};
 ghost use Rattle.tac_engine.specs.Steps.{enacted};
 ghost use Rattle.tac_engine.specs.View.{state_of};
@@ -148,7 +149,8 @@ impl<'a> Engine<'a> {
     /// A step that computes a value of two operands, or one that does anything else.
     #[inline(never)]
     pub(crate) fn enact_two(&mut self, alloc: Global, step: &Step) -> Comes
-        requires { for_two step.now ≡ true }
+        requires way { for_two step.now ≡ true }
+        requires room { StepHasRoom step.now (state_of self.old) }
         ensures { IfOk result (λ m. (m, state_of self.new) ≡ enacted step.now (state_of self.old)) }
     {
         match *step {
@@ -180,7 +182,8 @@ impl<'a> Engine<'a> {
     /// A step that computes a value of one operand, or one that does anything else.
     #[inline(never)]
     fn enact_one(&mut self, alloc: Global, step: &Step) -> Comes
-        requires { for_one step.now ≡ true }
+        requires way { for_one step.now ≡ true }
+        requires room { StepHasRoom step.now (state_of self.old) }
         ensures { IfOk result (λ m. (m, state_of self.new) ≡ enacted step.now (state_of self.old)) }
     {
         match *step {

@@ -2,5 +2,8 @@ pub mod Code
 pub mod Running
 pub mod Covering
 pub mod Jumps
+pub mod Turns
+pub mod Sizes
+pub mod Steady
 pub mod Kinds
 pub mod Temporaries

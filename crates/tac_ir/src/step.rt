@@ -10,9 +10,9 @@ use lay_base::{Bytes, List, Place, UndefinedKind};
 pub enum Operand {
     Word(u32),
     Null,
-    Function(u32),
+    Function(usize),
     /// The address of an object of the program, by its number.
-    Object(u32),
+    Object(usize),
     /// A temporary. Where it holds nothing, reading it is undefined with that kind, at that place.
     Temp(UndefinedKind, u32, Place),
 }
@@ -28,9 +28,9 @@ pub struct Row {
 #[derive(Clone, Copy)]
 pub enum Target {
     /// To where so many steps are left of the function's.
-    Left(u32),
+    Left(usize),
     /// To the label of that number, where the code before it was made later.
-    Label(u32),
+    Label(usize),
 }
 
 /// What is updated by `op=`, `++` or `--`.
@@ -85,20 +85,20 @@ pub enum Step {
     Test(Place, CompareOp, IntKind, bool, Operand, Operand, Target),
     /// Jumps where the operand is that number.
     Case(u32, Operand, Target),
-    Call(u32, Place, u32, Row),
+    Call(u32, Place, usize, Row),
     /// Through a pointer of a type, which has the type of the function.
-    CallThrough(u32, Place, u32, Operand, Row),
+    CallThrough(u32, Place, usize, Operand, Row),
     Library(u32, Place, LibraryFunction, Row),
     /// So many records, of that number and size, all zero or not.
-    Allocate(u32, Place, u32, u32, bool, Operand),
+    Allocate(u32, Place, usize, u32, bool, Operand),
     /// The block of a local of that size begins, or ends; it holds nothing again, or zeros; bytes of a text stand in it from an offset on.
     Begin(u32, u32),
     End(u32),
     Forget(u32, u32),
     Zeros(u32, u32),
-    Text(u32, u32, u32),
+    Text(u32, u32, usize),
     /// The body of a loop of a function begins.
-    Began(u32, u32),
+    Began(usize, u32),
     Return(Option<Operand>),
     /// The function is left with what a temporary holds, or without a value where it holds none.
     ReturnHeld(u32),
@@ -117,14 +117,14 @@ pub struct Parameter {
 #[derive(Drop)]
 pub struct Routine {
     /// The number of its type.
-    pub ty: u32,
+    pub ty: usize,
     /// Of each local, parameters first, whether it lies in a block.
     pub locals: List<bool>,
     pub parameters: List<Parameter>,
     /// Its steps, **the last one first**; a function without a body has none.
     pub code: List<Step>,
     /// How many steps are left at each label.
-    pub labels: List<u32>,
+    pub labels: List<usize>,
     /// The texts that stand in its blocks, by their numbers.
     pub texts: List<Bytes>,
 }
@@ -133,6 +133,6 @@ pub struct Routine {
 #[derive(Drop)]
 pub struct Tac {
     pub routines: List<Routine>,
-    pub main: u32,
+    pub main: usize,
     pub place: Place,
 }

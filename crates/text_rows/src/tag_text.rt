@@ -20,9 +20,9 @@ fn last_unknown(tags: &Tags, name: &[u8], end: u32) -> Option<u32> {
 }
 
 /// The number of a structure, where there is one.
-fn put_number(out: &mut Writer, number: Option<u32>) {
+fn put_number(out: &mut Writer, number: Option<usize>) {
     match number {
-        Some(number) => out.number(u64::from(number)),
+        Some(number) => out.value(&number),
         None => out.word("none"),
     }
 }
@@ -76,7 +76,7 @@ fn put_end(out: &mut Writer, tags: &Tags, at: u32) {
     if tags.ended(at.saturating_add(1)) > before {
         out.open("end");
         out.number(u64::from(at));
-        out.number(u64::from(before));
+        out.value(&before);
         out.close();
     }
 }

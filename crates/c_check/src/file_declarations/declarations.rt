@@ -42,7 +42,7 @@ fn type_made(
     ensures { Gives type_of result
         (type_made_in (records_of records.now) (derivations_of steps) (type_of base.now) (option_map value_of d.now.value) at) }
 {
-    let base = copy(base)?;
+    let base = copy(alloc, base)?;
     let shape = derived(alloc, records, steps, base)?;
     sized(alloc, records, at, shape, &d.value)
 }

@@ -49,7 +49,7 @@ fn declare_typedef(
 {
     own_name(x.from, library_named(x.text.as_slice()))?;
     once(alloc, x, place_of(file, x.text.as_slice()))?;
-    let entity = Entity::Typedef(copy(t)?);
+    let entity = Entity::Typedef(copy(alloc, t)?);
     bind(alloc, file, x, from, How::Defines, entity)?;
     Ok(())
 }
@@ -60,7 +60,7 @@ fn initialize(
     alloc: Global,
     value: &Option<InitialValue>,
     file: &mut FileScope,
-    n: u32,
+    n: usize,
     place: u32,
     t: &Ty,
 ) -> Result<(), Fault>

@@ -72,7 +72,7 @@ fn parted(
 fn define(
     alloc: Global,
     file: &mut FileScope,
-    n: u32,
+    n: usize,
     place: u32,
     count: usize,
     nodes: u64,
@@ -105,7 +105,7 @@ fn define_body(
     alloc: Global,
     f: &Function,
     file: &mut FileScope,
-    n: u32,
+    n: usize,
     place: u32,
     nodes: u64,
     result_type: &Ty,

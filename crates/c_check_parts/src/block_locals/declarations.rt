@@ -40,13 +40,13 @@ fn variable_made(
     steps: List<Derivation>,
     base: &Ty,
     d: &InitDeclarator,
-    count: u32,
+    count: usize,
     at: u32,
 ) -> Result<Ty, Fault>
     ensures { Gives type_of result
         (variable_made_in (records_of records.now) (derivations_of steps) (type_of base.now) (option_map value_of d.now.value) count at) }
 {
-    let base = copy(base)?;
+    let base = copy(alloc, base)?;
     let shape = derived(alloc, records, steps, base)?;
     let t = sized(alloc, records, at, shape, &d.value)?;
     variable(records, count, at, t)

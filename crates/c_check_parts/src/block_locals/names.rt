@@ -48,15 +48,15 @@ pub fn add_local(
     t: &Ty,
     block: &mut Block,
     locals: &mut List<Local>,
-) -> Result<u32, NoMemory>
+) -> Result<usize, NoMemory>
     ensures number { IfOk result (λ n. n ≡ length locals.old) }
     ensures added { OnOk result ((f : FileScope) → standing f block.new locals.new ≡ with_new_local (standing f block.old locals.old) x.now (type_of t.now)) }
 {
-    let n = u32::try_from(locals.len()).map_err(|_| NoMemory::unearned())?;
-    let b = bound(alloc, x, Entity::Local(n, copy(t)?))?;
+    let n = locals.len();
+    let b = bound(alloc, x, Entity::Local(n, copy(alloc, t)?))?;
     let local = Local {
         name: name(alloc, x.text.as_slice())?,
-        ty: copy(t)?,
+        ty: copy(alloc, t)?,
     };
     add(locals, local)?;
     add_name(alloc, block, b)?;
@@ -77,7 +77,7 @@ pub fn static_object(
         name: name(alloc, x.text.as_slice())?,
         place,
         first: place.at,
-        ty: copy(t)?,
+        ty: copy(alloc, t)?,
         is_linked: false,
         literal: None,
         initial,
@@ -85,12 +85,12 @@ pub fn static_object(
 }
 
 /// The object with that number is another one.
-pub fn replace_object(alloc: Global, objects: &mut List<Object>, n: u32, o: Object)
+pub fn replace_object(alloc: Global, objects: &mut List<Object>, n: usize, o: Object)
     ensures { objects.new ≡ slice_set objects.old n o }
 {
     let mut all = replace(objects, List::new(alloc)).into_vec();
-    if (n as usize) < all.len() {
-        all[n as usize] = o;
+    if n < all.len() {
+        all[n] = o;
     }
     *objects = List::of(all);
 }
@@ -103,13 +103,13 @@ pub fn add_object(
     t: &Ty,
     file: &mut FileScope,
     block: &mut Block,
-) -> Result<u32, NoMemory>
+) -> Result<usize, NoMemory>
     ensures number { IfOk result (λ n. n ≡ length file.old.objects) }
     ensures added { OnOk result ((locals : List Local) → standing file.new block.new locals
         ≡ with_new_object (standing file.old block.old locals) x.now place (type_of t.now)) }
 {
-    let n = u32::try_from(file.objects.len()).map_err(|_| NoMemory::unearned())?;
-    let b = bound(alloc, x, Entity::Object(n, copy(t)?))?;
+    let n = file.objects.len();
+    let b = bound(alloc, x, Entity::Object(n, copy(alloc, t)?))?;
     let object = static_object(alloc, x, place, t, None)?;
     add(&mut file.objects, object)?;
     add_name(alloc, block, b)?;

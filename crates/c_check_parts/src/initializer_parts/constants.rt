@@ -1,6 +1,6 @@
 //! Initializers of objects that are made before the program starts (C99 6.7.8): each value is a constant.
 
-ghost use Rattle.std.specs.Prelude.{◌≡◌, IfOk, map};
+ghost use Rattle.std.specs.Prelude.{◌≡◌, map};
 ghost use Rattle.c_erasure.specs.Scopes.{declared};
 ghost use Rattle.c_annotated.specs.Views.{initializer_of, part_of, part_value_of};
 ghost use Rattle.c_erasure.specs.Checking.Initializers.{are_constant_parts, are_constants, constants_in, is_constant_part};
@@ -13,56 +13,44 @@ use c_initial_values::initial_value;
 use c_nodes::Fault;
 use c_scopes::{FileScope, Scope};
 use c_types::Records;
-use lay_base::{NoMemory, Rule};
+use lay_base::Rule;
 
 /// Whether a part holds a constant. A record is initialized by its parts alone.
-fn is_constant_part(
-    records: &Records,
-    objects: &[Object],
-    value: &PartValue,
-) -> Result<bool, NoMemory>
-    ensures { IfOk result (λ is. is ≡ is_constant_part (declared_by records.now objects.now) (part_value_of value.now)) }
+fn is_constant_part(records: &Records, objects: &[Object], value: &PartValue) -> bool
+    ensures { result ≡ is_constant_part (declared_by records.now objects.now) (part_value_of value.now) }
 {
     match value {
-        PartValue::Value(x) => Ok(initial_value(records, objects, x.get())?.is_some()),
-        PartValue::Record(_) => Ok(false),
-        PartValue::Text(_) => Ok(true),
+        PartValue::Value(x) => initial_value(records, objects, x.get()).is_some(),
+        PartValue::Record(_) => false,
+        PartValue::Text(_) => true,
     }
 }
 
-fn are_constant_parts(
-    records: &Records,
-    objects: &[Object],
-    all: &[InitializerPart],
-) -> Result<bool, NoMemory>
-    ensures { IfOk result (λ are. are ≡ are_constant_parts (declared_by records.now objects.now) (map part_of all.now)) }
+fn are_constant_parts(records: &Records, objects: &[Object], all: &[InitializerPart]) -> bool
+    ensures { result ≡ are_constant_parts (declared_by records.now objects.now) (map part_of all.now) }
 {
     for part in all {
-        if !is_constant_part(records, objects, &part.value)? {
-            return Ok(false);
+        if !is_constant_part(records, objects, &part.value) {
+            return false;
         }
     }
-    Ok(true)
+    true
 }
 
 /// Whether each value is a constant, where these objects are declared.
-fn are_constants(
-    records: &Records,
-    objects: &[Object],
-    initial: &Initializer,
-) -> Result<bool, NoMemory>
-    ensures { IfOk result (λ are. are ≡ are_constants (declared_by records.now objects.now) (initializer_of initial.now)) }
+fn are_constants(records: &Records, objects: &[Object], initial: &Initializer) -> bool
+    ensures { result ≡ are_constants (declared_by records.now objects.now) (initializer_of initial.now) }
 {
     match initial {
-        Initializer::Value(x) => Ok(initial_value(records, objects, x.get())?.is_some()),
-        Initializer::Record(_) => Ok(false),
+        Initializer::Value(x) => initial_value(records, objects, x.get()).is_some(),
+        Initializer::Record(_) => false,
         Initializer::Parts(all) => are_constant_parts(records, objects, all.as_slice()),
     }
 }
 
 /// Whether each value is a constant, with what is declared there.
-fn are_constants_in(file: &FileScope, scope: Scope, initial: &Initializer) -> Result<bool, NoMemory>
-    ensures { IfOk result (λ are. are ≡ are_constants (declared (scope_of file.now scope.entry)) (initializer_of initial.now)) }
+fn are_constants_in(file: &FileScope, scope: Scope, initial: &Initializer) -> bool
+    ensures { result ≡ are_constants (declared (scope_of file.now scope.entry)) (initializer_of initial.now) }
 {
     are_constants(&file.records, file.objects.as_slice(), initial)
 }
@@ -77,7 +65,7 @@ pub fn constants(
 ) -> Result<Initializer, Fault>
     ensures { Gives initializer_of result (constants_in (declared (scope_of file.now scope.entry)) at (initializer_of initial)) }
 {
-    if are_constants_in(file, scope, &initial)? {
+    if are_constants_in(file, scope, &initial) {
         Ok(initial)
     } else {
         Err(Fault::IllTyped(Rule::Init, at))

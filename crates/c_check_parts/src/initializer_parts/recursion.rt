@@ -23,7 +23,7 @@ use crate::initializer_parts::texts::{is_text, text_of_array, texts_of};
 use crate::initializer_parts::values::{one_value, without_braces};
 use c_annotated::InitializerPart;
 use c_ast::{Argument, Expression, Spelling, first_of_expression};
-use c_initial_values::{field_offset, size};
+use c_initial_values::{field_offset, further, size};
 use c_nodes::Fault;
 use c_scopes::{FileScope, Scope};
 use c_types::{Records, Ty, copy};
@@ -61,7 +61,7 @@ fn add_plain(
 fn add_text(
     alloc: Global,
     left: u32,
-    n: u32,
+    n: u64,
     texts: Option<&List<Spelling>>,
     at: u32,
     parts: &mut List<InitializerPart>,
@@ -102,36 +102,33 @@ fn types_of_fields(alloc: Global, fields: &[c_types::Field]) -> Result<List<Ty>,
 {
     let mut types = List::new(alloc);
     for field in fields {
-        add(&mut types, copy(&field.ty)?)?;
+        add(&mut types, copy(alloc, &field.ty)?)?;
     }
     Ok(types)
 }
 
 /// The types of the fields of the record with that number.
-fn field_types(alloc: Global, records: &Records, r: u32) -> Result<List<Ty>, NoMemory>
+fn field_types(alloc: Global, records: &Records, r: usize) -> Result<List<Ty>, NoMemory>
     ensures { IfOk result (λ types. map type_of types ≡ map (λ f. f.ty) (fields_of (slice_get (records_of records.now) r))) }
 {
-    match records.as_slice().get(r as usize) {
+    match records.as_slice().get(r) {
         Some(record) => types_of_fields(alloc, record.fields.as_slice()),
         None => Ok(List::new(alloc)),
     }
 }
 
 /// Where the next element of an array begins.
-fn after_element(records: &Records, element: &Ty, at: u32) -> Result<u32, NoMemory>
+fn after_element(alloc: Global, records: &Records, element: &Ty, at: u32) -> Result<u32, NoMemory>
     ensures { IfOk result (λ next. next ≡ at + size_of (records_of records.now) (type_of element.now)) }
 {
-    let size = size(records, element).ok_or(NoMemory::unearned())?;
-    at.checked_add(size).ok_or(NoMemory::unearned())
+    further(alloc, at, size(records, element))
 }
 
 /// Where a field begins of a record that begins at the byte `at` of the whole.
-fn field_at(records: &Records, r: u32, k: usize, at: u32) -> Result<u32, NoMemory>
+fn field_at(alloc: Global, records: &Records, r: usize, k: usize, at: u32) -> Result<u32, NoMemory>
     ensures { IfOk result (λ from. from ≡ at + offset_of (records_of records.now) r k) }
 {
-    let k = u32::try_from(k).map_err(|_| NoMemory::unearned())?;
-    let offset = field_offset(records, r, k).ok_or(NoMemory::unearned())?;
-    at.checked_add(offset).ok_or(NoMemory::unearned())
+    further(alloc, at, u64::from(field_offset(records, r, k)))
 }
 
 /// Adds the parts of an object of a type that begins at the byte `at` of the whole.
@@ -186,7 +183,7 @@ fn elements(
     file: &mut FileScope,
     scope: Scope,
     element: &Ty,
-    n: u32,
+    n: u64,
     at: u32,
     parts: &mut List<InitializerPart>,
 ) -> Result<(), Fault>
@@ -205,7 +202,7 @@ fn elements(
             Ok(()) => {}
             Err(fault) => return Err(fault),
         }
-        match after_element(&file.records, element, from) {
+        match after_element(alloc, &file.records, element, from) {
             Ok(next) => from = next,
             Err(want) => return Err(Fault::Memory(want)),
         }
@@ -220,7 +217,7 @@ fn fields(
     all: &[Argument],
     file: &mut FileScope,
     scope: Scope,
-    r: u32,
+    r: usize,
     at: u32,
     parts: &mut List<InitializerPart>,
 ) -> Result<(), Fault>
@@ -238,7 +235,7 @@ fn fields(
         if k >= listed.len() {
             return Err(Fault::IllTyped(Rule::Init, first_of_expression(&item.value)));
         }
-        match field_at(&file.records, r, k, at) {
+        match field_at(alloc, &file.records, r, k, at) {
             Ok(from) => match initialized(
                 alloc,
                 &item.value,

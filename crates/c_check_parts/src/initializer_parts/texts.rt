@@ -70,7 +70,7 @@ pub fn is_text(element: &Ty, texts: Option<&List<Spelling>>) -> bool
 }
 
 /// The bytes of string literals in an array of so many characters: the zero at their end is left out where there is no room for it.
-fn bytes_in(from: u32, n: u32, bytes: Bytes) -> Result<Bytes, Fault>
+fn bytes_in(from: u32, n: u64, bytes: Bytes) -> Result<Bytes, Fault>
     ensures { Gives (λ held. held) result (bytes_in from n bytes) }
 {
     let length = bytes.len();
@@ -91,7 +91,7 @@ pub fn text_of_array(
     alloc: Global,
     from: u32,
     at: u32,
-    n: u32,
+    n: u64,
     is_text: bool,
     texts: Option<&List<Spelling>>,
 ) -> Result<InitializerPart, Fault>
@@ -126,13 +126,13 @@ fn items_of(a: &Expression) -> usize
     }
 }
 
-/// How many elements of that type an array has whose length is left to its initializer. Of 2^32 and more, want of memory is answered.
-pub fn length_of(alloc: Global, element: &Ty, a: &Expression) -> Result<u32, NoMemory>
+/// How many elements of that type an array has whose length is left to its initializer.
+pub fn length_of(alloc: Global, element: &Ty, a: &Expression) -> Result<u64, NoMemory>
     ensures { IfOk result (λ n. n ≡ length_of (type_of element.now) (texts_of (expression_of a.now)) (expression_of a.now)) }
 {
     let length = match texts_of(a) {
         Some(all) if is_character(element) => literal_bytes(alloc, all.as_slice())?.len(),
         _ => items_of(a),
     };
-    u32::try_from(length).map_err(|_| NoMemory::unearned())
+    Ok(length as u64)
 }

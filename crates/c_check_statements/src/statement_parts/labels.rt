@@ -48,10 +48,11 @@ pub fn no_labels(alloc: Global) -> SwitchLabels
 fn with_case(at: u32, all: &mut SwitchLabels, v: u32) -> Result<(), Fault>
     ensures { Gives (λ done. switch_labels_of all.new) result (with_case at (switch_labels_of all.old) v) }
 {
-    if all.cases.contains(v) {
+    let number = v as usize;
+    if all.cases.contains(number) {
         return Err(Fault::IllTyped(Rule::Label, at));
     }
-    match all.cases.add(v) {
+    match all.cases.add(number) {
         Ok(()) => Ok(()),
         Err(want) => Err(Fault::Memory(want)),
     }

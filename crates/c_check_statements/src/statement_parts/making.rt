@@ -24,7 +24,7 @@ pub fn statement(alloc: Global, st: Statement) -> Result<Boxed<Statement>, Fault
 }
 
 /// The local that a statement declares itself.
-fn number_declared(st: &Statement) -> Option<u32>
+fn number_declared(st: &Statement) -> Option<usize>
     ensures { result ≡ number_declared (statement_of st.now) }
 {
     match st {
@@ -35,7 +35,7 @@ fn number_declared(st: &Statement) -> Option<u32>
 
 /// The locals that statements declare themselves, after others.
 #[tactic(auto, using(crate::proofs::StatementParts::Declared::declared_number, crate::proofs::StatementParts::Declared::declared_nothing))]
-fn add_declared(locals: &mut List<u32>, all: &[Statement]) -> Result<(), NoMemory>
+fn add_declared(locals: &mut List<usize>, all: &[Statement]) -> Result<(), NoMemory>
     ensures { OnOk result (locals.new ≡ locals.old ++ declared_by (statements_of (map statement_of all.now))) }
 {
     for st in all {
@@ -47,7 +47,7 @@ fn add_declared(locals: &mut List<u32>, all: &[Statement]) -> Result<(), NoMemor
 }
 
 /// The locals that the statements of arms declare themselves.
-fn declared_by_arms(alloc: Global, arms: &[Arm]) -> Result<List<u32>, NoMemory>
+fn declared_by_arms(alloc: Global, arms: &[Arm]) -> Result<List<usize>, NoMemory>
     ensures { IfOk result (λ locals. locals ≡ declared_by_arms (arms_of (map arm_of arms.now))) }
 {
     let mut locals = List::new(alloc);

@@ -23,7 +23,7 @@ use Rattle.c_typed.specs.declared.operators.PointerOp.TheVariants as P
 use Rattle.c_typed.specs.Trees as Typed
 use Rattle.c_typed.specs.Constants.{ty, constant_of}
 use Rattle.c_typed.specs.Conversions.{is_pointer, pointed, element_of}
-use Rattle.c_typed.specs.InitialValues.{Address, element_size, number_in, within, moved as moved_to, subscripted, inside, or_negated}
+use Rattle.c_typed.specs.InitialValues.{Address, element_size, number_in, end_of, within, moved as moved_to, subscripted, inside, or_negated}
 use Rattle.c_typed.specs.InitialValues.{address_of_path, address_in}
 use Rattle.c_typed.specs.Subscripts.{is_subscript}
 use Rattle.c_typed.specs.InitialValues.{InitialValue, an_address, a_null, as_address, as_function, as_number, function_in, is_null_in, initial_in}
@@ -105,10 +105,10 @@ module _ (f g : FileScope) (p : Extends f g) (complete : AreComplete f.records) 
   within_stays : (m : ℕ) (z : ℤ) (a : Address) → within D m z ≡ Some a → within E m z ≡ Some a
   within_stays m (negsuc k) a h = cc
   within_stays m (pos o) a h =
-      let c = if_some (nat_le o (size_of f.records (get_or D.objects m void))) (Some (record { object = m; offset = o })) a h in
-      let l = leb-true o (size_of f.records (get_or D.objects m void)) c.0 in
+      let c = if_some (nat_le o (end_of D m)) (Some (record { object = m; offset = o })) a h in
+      let l : o ≤ end_of D m = leb-true o (end_of D m) c.0 in
       let k = object_sizes m in
-      ap (λ b. cond b (Some (record { object = m; offset = o })) None) (less_so o (size_of g.records (get_or E.objects m void)) (omega (arith, l, k))) ∙ c.1
+      ap (λ b. cond b (Some (record { object = m; offset = o })) None) (less_so o (end_of E m) (omega (arith, l, k))) ∙ c.1
 
   -- so many elements further on
   moved_stays : (o q : Option Address) (k : Option ℤ) (size more : ℕ) (a : Address) → ((b : Address) → o ≡ Some b → q ≡ Some b) → more ≡ size

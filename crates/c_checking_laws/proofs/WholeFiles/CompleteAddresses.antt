@@ -3,7 +3,7 @@ use Rattle.std.proofs.Common.{◌≡◌, ℕ, zero, suc, ◌≤◌, ◌<◌, Boo
 use Rattle.std.proofs.Common.{inl, inr}
 use Rattle.std.proofs.lemmas.Bool.{and_parts, ltb-true}
 use Rattle.std.proofs.lemmas.Option.{get_or_from_slice_get}
-use Rattle.std.specs.Prelude.{map, get_or, nat_le, nat_lt, Option, Some, None, slice_get, ℤ, pos, negsuc}
+use Rattle.std.specs.Prelude.{map, get_or, nat_le, nat_lt, min, ◌-◌, ◌^◌, Option, Some, None, slice_get, ℤ, pos, negsuc}
 use Rattle.std.specs.Option.{option_map}
 use Rattle.lay_base.specs.declared.place.Place.{Place}
 use Rattle.c_types.specs.Layouts.{size_of, offset_of}
@@ -14,7 +14,7 @@ use Rattle.c_typed.specs.declared.operators.PointerOp.TheVariants as P
 use Rattle.c_typed.specs.Trees as Typed
 use Rattle.c_typed.specs.Constants.{ty, constant_of}
 use Rattle.c_typed.specs.Conversions.{is_pointer, pointed, element_of}
-use Rattle.c_typed.specs.InitialValues.{Address, element_size, number_in, within, moved as moved_to, subscripted, inside, or_negated}
+use Rattle.c_typed.specs.InitialValues.{Address, element_size, number_in, end_of, within, moved as moved_to, subscripted, inside, or_negated}
 use Rattle.c_typed.specs.InitialValues.{address_of_path}
 use Rattle.c_typed.specs.Subscripts.{is_subscript}
 use Rattle.c_typed.specs.InitialValues.{address_in}
@@ -97,9 +97,9 @@ module _ (g : FileScope) (w : IsWhole g) (ls : List ALocal) (s : Scope) (m : Lis
   within_back : (k : ℕ) (z : ℤ) (a : Address) → IsKnown k → within D k z ≡ Some a → IsBack (within E k z) a
   within_back k (negsuc j) a i h = cc
   within_back k (pos o) a i h =
-      let c = if_some (nat_le o (size_of g.records (get_or D.objects k void))) (Some (record { object = k; offset = o })) a h in
+      let c = if_some (nat_le o (end_of D k)) (Some (record { object = k; offset = o })) a h in
       let e : k ≡ a.object = ap (λ (a : Address). a.object) (some_is (record { object = k; offset = o }) a c.1) in (
-        ap (λ z. cond (nat_le o z) (Some (record { object = k; offset = o })) None) (sym (size_known k i)) ∙ h,
+        ap (λ z. cond (nat_le o (min z (2 ^ 32 - 1))) (Some (record { object = k; offset = o })) None) (sym (size_known k i)) ∙ h,
         subst IsKnown e i,
       )
 

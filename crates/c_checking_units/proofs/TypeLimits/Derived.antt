@@ -14,7 +14,8 @@ use Rattle.c_erasure.specs.Checking.Declaring.{closed_at}
 use Rattle.c_erasure.specs.Checking.Declaring.{scalar_parameter, object_at}
 use Rattle.c_checking_laws.proofs.Results.{bound_ok, given, only_if}
 use Rattle.c_checking_laws.proofs.Derived.{small_is}
-use Rattle.c_checking_units.proofs.TypeLimits.Types.{IsWithin, AreWithin, HaveSmallArrays, IsLonger, all_stay_within, decayed_within, function_pointer_within}
+use Rattle.c_checking_units.specs.TypeLimits.Limits.{HaveSmallArrays}
+use Rattle.c_checking_units.proofs.TypeLimits.Types.{IsWithin, AreWithin, IsLonger, all_stay_within, decayed_within, function_pointer_within}
 
 -- the parameters of a step to a function
 abbrev pub IsStep : List Record → Derivation → Type 0

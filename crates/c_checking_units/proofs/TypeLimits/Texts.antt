@@ -1,8 +1,9 @@
 -- In the tree of a text of at most 4 MiB string literals are short: they stand in the text one after the other (C99 6.4.5).
 use Rattle.std.proofs.Common.{◌≡◌, ℕ, zero, suc, ◌+◌, ◌-◌, ◌≤◌, refl, subst, List, [], ◌∷◌, length, take, drop, arith, length-append}
-use Rattle.std.specs.Prelude.{Option, Some, None, option_map, unwrap_or}
+use Rattle.std.specs.Prelude.{Bool, true, false, if◌then◌else◌, Option, Some, None, option_map}
+use Rattle.std.specs.List.{list_any}
 use Rattle.c_tokens.specs.declared.token.Token.{Token}
-use Rattle.c_tokens.specs.QuotedScan.{item_at, with_item, values_in, body_of, string_bytes}
+use Rattle.c_tokens.specs.QuotedScan.{item_at, with_item, values_in, is_too_great, body_of, bytes_with, string_bytes}
 use Rattle.c_tokens.specs.TokenPlaces.{AreInOrder, TokensHavePlaces}
 use Rattle.c_ast.specs.declared.words.Spelling.{Spelling}
 use Rattle.c_ast.specs.Lexemes.{lexemes_of}
@@ -66,15 +67,20 @@ dropped_of zero (x ∷ xs) = omega arith
 dropped_of (suc n) [] = omega arith
 dropped_of (suc n) (x ∷ xs) = let l = dropped_of n xs in omega (arith, l)
 
+cut_few : (great : Bool) (values : List ℕ) (n : ℕ) → length values ≤ n → length (if great then [] else values) ≤ n
+cut_few true values n h = omega arith
+cut_few false values n h = h
+
 bytes_few : (word : List ℕ) → length (string_bytes word) ≤ length word
 unfolding string_bytes
 bytes_few word = by_values (values_in (length (body_of word)) (body_of word)) (λ values e. values_few (length (body_of word)) (body_of word) values e)
   where
-    by_values : (o : Option (List ℕ)) → ((values : List ℕ) → o ≡ Some values → length values ≤ length (body_of word)) → length (unwrap_or o []) ≤ length word
+    by_values : (o : Option (List ℕ)) → ((values : List ℕ) → o ≡ Some values → length values ≤ length (body_of word)) → length (bytes_with o) ≤ length word
     by_values None k = omega arith
     by_values (Some values) k =
         let l = k values refl in
-        let m = taken_few (length word - 2) (drop 1 word) in omega (arith, l, m)
+        let m = taken_few (length word - 2) (drop 1 word) in
+        let few : length values ≤ length word = omega (arith, l, m) in cut_few (list_any is_too_great values) values (length word) few
 
 -- ---- the bytes of some tokens
 

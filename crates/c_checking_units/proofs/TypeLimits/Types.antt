@@ -1,30 +1,16 @@
 -- Types within the limits: each array in one was within them when it was made, of elements that were complete then. So it stays, where more
 -- records are complete.
-use Rattle.std.proofs.Common.{◌≡◌, ℕ, ◌+◌, ◌*◌, ◌≤◌, ◌<◌, true, sym, ap, ◌∙◌, subst, List, [], ◌++◌, length, arith, append-nil, append_assoc, length-append}
+use Rattle.std.proofs.Common.{◌≡◌, ℕ, ◌+◌, ◌*◌, ◌≤◌, ◌<◌, sym, ap, ◌∙◌, subst, List, [], ◌++◌, length, arith, append-nil, append_assoc, length-append}
 use Rattle.c_types.proofs.Growing.{layouts_stay}
 use Rattle.c_types.specs.declared.ty.IntKind.{IntKind}
 use Rattle.c_types.specs.declared.ty.IntKind.TheVariants as K
 use Rattle.c_types.specs.IntKinds.{width}
 use Rattle.c_types.specs.Layouts.{size_of}
-use Rattle.c_types.specs.Objects.{is_object, parts, parts_of_all}
+use Rattle.c_types.specs.Objects.{parts, parts_of_all}
 use Rattle.c_types.specs.Types.{CType, CTypes, void, integer, pointer, array, function, structure, no_types, and_type, Record}
 use Rattle.c_erasure.specs.Declarators.{IsSmall}
 use Rattle.c_checking_laws.proofs.Settled.{object_more}
-
--- ---- arrays inside of types
-
-abbrev mutual
-  pub HasSmallArrays : List Record → CType → Type 0
-  HasSmallArrays records void = Unit {0}
-  HasSmallArrays records (integer kind) = Unit {0}
-  HasSmallArrays records (pointer t) = HasSmallArrays records t
-  HasSmallArrays records (array t n) = (is_object (length records) t ≡ true) × (size_of records (array t n) ≤ 16777216) × HasSmallArrays records t
-  HasSmallArrays records (function t all) = HasSmallArrays records t × HaveSmallArrays records all
-  HasSmallArrays records (structure r) = Unit {0}
-
-  pub HaveSmallArrays : List Record → CTypes → Type 0
-  HaveSmallArrays records no_types = Unit {0}
-  HaveSmallArrays records (and_type t more) = HasSmallArrays records t × HaveSmallArrays records more
+use Rattle.c_checking_units.specs.TypeLimits.Limits.{HasSmallArrays, HaveSmallArrays}
 
 -- ---- parts: a function's type counts with the pointer that its name becomes
 

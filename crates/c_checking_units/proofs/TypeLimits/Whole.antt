@@ -29,7 +29,7 @@ use Rattle.c_erasure.specs.Scopes.{AnObject, ALocal, AFunction, AMention, FileSc
 use Rattle.c_erasure.specs.Units.{recognised_initializer, recognised_statement, if_any, is_size_operand, typed_initializer, mentions, Stores, of_text, stored}
 use Rattle.c_erasure.specs.Units.{of_expression, of_value, of_part, of_initializer, stored_in, type_if_pointer, object_types, function_types, all_types}
 use Rattle.c_erasure.specs.Units.{new_among, types}
-use Rattle.c_checking_units.specs.TypeLimits.Limits.{TypesAreSmall}
+use Rattle.c_checking_units.specs.TypeLimits.Limits.{TypesAreSmall, HasSmallArrays}
 use Rattle.c_checking_units.proofs.TypeLimits.Types.{IsWithin, number_within, record_within, within_is_small}
 use Rattle.c_checking_units.proofs.TypeLimits.Trees.{Each, EachInNode, EachInPath, EachInStep, EachInValue, EachInParts, EachInInitializer, EachInInitial}
 use Rattle.c_checking_units.proofs.TypeLimits.Trees.{listed_in_statement, recognised_in_initializer, recognised_in_statement}
@@ -264,10 +264,18 @@ module _ (f : FileScope) (h : IsFile f) where
       by_place (inr z) =
           subst (λ (o : Option Layout). (unwrap_or o (record { offsets = []; size = 0; alignment = 1 })).size ≤ 16777216) (sym z.1) (omega arith)
 
+  types_within : AllByRecursion W (types f)
+  types_within = new_ones W [] (all_types f) all_within
+
   pub types_small : All (IsSmall f.records) (types f)
   types_small =
       All-from_recursion (IsSmall f.records) (types f)
-      (each_so W (IsSmall f.records) (types f) (λ t w. within_is_small f.records record_small t w) (new_ones W [] (all_types f) all_within))
+      (each_so W (IsSmall f.records) (types f) (λ t w. within_is_small f.records record_small t w) types_within)
+
+  pub arrays_small : All (HasSmallArrays f.records) (types f)
+  arrays_small =
+      All-from_recursion (HasSmallArrays f.records) (types f)
+      (each_so W (HasSmallArrays f.records) (types f) (λ t w. let h : IsWithin f.records t = w in h.arrays) types_within)
 
 pub types_are_small : TokensHavePlaces → TypesAreSmall
 types_are_small places number untagged bytes items f l tree h =

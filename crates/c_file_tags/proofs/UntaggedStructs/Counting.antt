@@ -1,5 +1,5 @@
 -- Counts of places on lines.
-use Rattle.std.proofs.Common.{◌≡◌, ◌≢◌, ℕ, ◌+◌, List, [], ◌∷◌, ◌++◌, Bool, true, false, cond, Option, Some, None, refl, sym, ap, ◌∙◌, subst, arith, ◌&&◌}
+use Rattle.std.proofs.Common.{◌≡◌, ◌≢◌, ℕ, ◌+◌, ◌≤◌, List, [], ◌∷◌, ◌++◌, Bool, true, false, cond, Option, Some, None, refl, sym, ap, ◌∙◌, subst, arith, ◌&&◌}
 use Rattle.std.proofs.Common.{if◌then◌else◌, nat_eq, unwrap_or, inl, inr, ◌⊎◌}
 use Rattle.std.proofs.lemmas.Bool.{eqb-true, eq-eqb}
 use Rattle.std.specs.Global.{Vec}
@@ -92,6 +92,15 @@ pub one_counted : (old new : List ((Vec ℕ × ℕ) × ℕ)) (key : Vec ℕ) (na
 one_counted old new key name line n known e h m i q =
     ap (λ es. counted_at es q) i ∙ (counted_more old (key, line) n q (m ∙ ap (λ x. x + 1) h)
     ∙ ap (λ x. counted_at old q + (if is_line q (x, line) then 1 else 0)) e)
+
+-- a line has no more places than there are in all
+pub few_more : (old new : Line → ℕ) (line : Line) (n : ℕ) → ((q : Line) → new q ≡ old q + (if is_line q line then 1 else 0))
+    → ((q : Line) → old q ≤ n) → (q : Line) → new q ≤ n + 1
+few_more old new line n more few q = by (is_line q line) (more q)
+  where
+    by : (b : Bool) → new q ≡ old q + one_if b → new q ≤ n + 1
+    by true h = omega (arith, h, few q)
+    by false h = omega (arith, h, few q)
 
 -- ---- a place more
 

@@ -113,20 +113,6 @@ fn in_arms(found: &mut Found, all: &[Arm]) -> Result<(), NoMemory>
     Ok(())
 }
 
-/// The numbers of the types at the nodes of a statement.
-pub fn statement_types(found: &mut List<u32>, s: &Statement) -> Result<(), NoMemory>
-    ensures { OnOk result (found.new ≡ found.old ++ types_in_statement (statement_of s.now)) }
-{
-    let alloc = *found.as_mut_vec().allocator();
-    let mut all = Found {
-        types: replace(found, List::new(alloc)),
-        references: List::new(alloc),
-    };
-    let result = in_statement(&mut all, s);
-    *found = all.types;
-    result
-}
-
 /// What a statement refers to.
 pub fn references_by_statement(found: &mut List<Reference>, s: &Statement) -> Result<(), NoMemory>
     ensures { OnOk result (map reference_of found.new ≡ map reference_of found.old ++ references_by_statement (statement_of s.now)) }

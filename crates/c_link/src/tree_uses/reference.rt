@@ -5,13 +5,13 @@ use lay_base::List;
 /// An object or a function of the program, by its number.
 #[derive(Clone, Copy)]
 pub enum Reference {
-    Object(u32),
-    Function(u32),
+    Object(usize),
+    Function(usize),
 }
 
 /// The numbers of the types at the nodes of trees, and what the trees refer to, both in the order of the text.
 #[derive(Drop)]
 pub struct Found {
-    pub types: List<u32>,
+    pub types: List<usize>,
     pub references: List<Reference>,
 }

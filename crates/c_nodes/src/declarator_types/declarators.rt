@@ -28,9 +28,9 @@ pub enum Derivation {
     /// To a pointer.
     Pointer(u32),
     /// To an array: how many records are complete there, the byte, and how many elements there are.
-    Array(u32, u32, u32),
+    Array(usize, u32, u64),
     /// To an array whose length is left out: how many records are complete there, and the byte.
-    OpenArray(u32, u32),
+    OpenArray(usize, u32),
     /// To a function, with the types of its parameters.
     Function(u32, List<Ty>),
 }
@@ -55,7 +55,7 @@ pub fn small(records: &Records, at: u32, t: Ty) -> Result<Ty, Fault>
 }
 
 /// A type as that of the elements of an array (C99 6.7.5.2).
-fn element(records: &Records, count: u32, at: u32, t: Ty) -> Result<Ty, Fault>
+fn element(records: &Records, count: usize, at: u32, t: Ty) -> Result<Ty, Fault>
     ensures { Gives type_of result (element_in (records_of records.now) count at (type_of t)) }
 {
     if is_complete(records, count, &t) {
@@ -77,7 +77,14 @@ fn result(at: u32, t: Ty) -> Result<Ty, Fault>
 }
 
 /// An array of so many elements of a type.
-fn array(alloc: Global, records: &Records, count: u32, at: u32, n: u32, t: Ty) -> Result<Ty, Fault>
+fn array(
+    alloc: Global,
+    records: &Records,
+    count: usize,
+    at: u32,
+    n: u64,
+    t: Ty,
+) -> Result<Ty, Fault>
     ensures { Gives type_of result (array_in (records_of records.now) count at n (type_of t)) }
 {
     let t = element(records, count, at, t)?;
@@ -140,7 +147,7 @@ pub fn closed(at: u32, shape: Shape) -> Result<Ty, Fault>
 
 /// A type as that of an object or a field, where `count` records are complete.
 #[tactic(auto, unfolding(c_erasure::specs::Checking::Declaring::object_at))]
-pub fn object(records: &Records, count: u32, at: u32, t: Ty) -> Result<Ty, Fault>
+pub fn object(records: &Records, count: usize, at: u32, t: Ty) -> Result<Ty, Fault>
     ensures { Gives type_of result (object_at (records_of records.now) count at (type_of t)) }
 {
     if is_complete(records, count, &t) {
@@ -173,7 +180,7 @@ pub fn scalar(at: u32, t: Ty) -> Result<Ty, Fault>
 }
 
 /// The type of an array whose initializer tells how many elements it has (C99 6.7.8).
-pub fn counted(alloc: Global, records: &Records, at: u32, element: Ty, n: u32) -> Result<Ty, Fault>
+pub fn counted(alloc: Global, records: &Records, at: u32, element: Ty, n: u64) -> Result<Ty, Fault>
     ensures { Gives type_of result (counted_array (records_of records.now) at (type_of element) n) }
 {
     if n == 0 {
@@ -185,7 +192,7 @@ pub fn counted(alloc: Global, records: &Records, at: u32, element: Ty, n: u32) -
 
 /// The type of an object in a block, which is complete, and no function. `count` records are complete there.
 #[tactic(auto, unfolding(c_erasure::specs::Checking::Statements::variable_type, c_erasure::specs::Checking::Declaring::object_at))]
-pub fn variable(records: &Records, count: u32, at: u32, t: Ty) -> Result<Ty, Fault>
+pub fn variable(records: &Records, count: usize, at: u32, t: Ty) -> Result<Ty, Fault>
     ensures { Gives type_of result (variable_type (records_of records.now) count at (type_of t)) }
 {
     if is_function(&t) {
@@ -200,7 +207,7 @@ pub fn typedef_named(alloc: Global, x: &Spelling, it: Option<&Entity>) -> Result
     ensures { Gives type_of result (type_named x.now (option_map entity_of (option_copied it.entry))) }
 {
     match it {
-        Some(Entity::Typedef(t)) => Ok(copy(t)?),
+        Some(Entity::Typedef(t)) => Ok(copy(alloc, t)?),
         _ => Err(Fault::Undeclared(name(alloc, x.text.as_slice())?, x.from)),
     }
 }

@@ -43,10 +43,10 @@ fn number_of(c: Integer) -> i64
 }
 
 /// The length of an array: a number of at least 1 (C99 6.7.5.2).
-pub fn length(at: u32, c: Integer) -> Result<u32, Fault>
+pub fn length(at: u32, c: Integer) -> Result<u64, Fault>
     ensures { Gives (λ n. n) result (length_value at (integer_view c)) }
 {
-    match u32::try_from(number_of(c)) {
+    match u64::try_from(number_of(c)) {
         Ok(n) if n > 0 => Ok(n),
         _ => Err(Fault::IllTyped(Rule::Length, at)),
     }

@@ -101,7 +101,7 @@ pub fn assigned(
     ensures { Gives thing_of result (assigned_in op_at at (path_of p) (expression_of x)) }
 {
     if assigns(&x.get().ty, is_null(x.get()), &p.get().ty) {
-        let t = copy(&p.get().ty)?;
+        let t = copy(alloc, &p.get().ty)?;
         let x = convert(alloc, &t, x)?;
         node(alloc, t, at, ExpressionNode::Assign(p, x))
     } else {
@@ -140,7 +140,7 @@ pub fn copied(
 #[tactic(auto, unfolding(c_erasure::specs::Checking::Nodes::updated_in))]
 pub fn updated(
     alloc: Global,
-    count: u32,
+    count: usize,
     op_at: u32,
     at: Place,
     op: BinaryOp,
@@ -151,7 +151,7 @@ pub fn updated(
 {
     match updating(count, op, &p.get().ty, &x.get().ty) {
         Some(kind) => {
-            let t = copy(&p.get().ty)?;
+            let t = copy(alloc, &p.get().ty)?;
             let x = convert_to_kind(alloc, kind, x)?;
             node(alloc, t, at, ExpressionNode::AssignOp(op, p, x))
         }
@@ -169,6 +169,6 @@ pub fn comma(
 ) -> Result<Thing, Fault>
     ensures { Gives thing_of result (comma_in at (expression_of x) (expression_of y)) }
 {
-    let t = copy(&y.get().ty)?;
+    let t = copy(alloc, &y.get().ty)?;
     node(alloc, t, at, ExpressionNode::Comma(x, y))
 }

@@ -29,8 +29,8 @@ pub fn type_in_common(alloc: Global, s: &Ty, t: &Ty, common: CommonType) -> Resu
     match common {
         CommonType::Number(kind) => Ok(Ty::Int(kind)),
         CommonType::Void => Ok(Ty::Void),
-        CommonType::Pointer(Met::Left) => copy(s),
-        CommonType::Pointer(Met::Right) => copy(t),
+        CommonType::Pointer(Met::Left) => copy(alloc, s),
+        CommonType::Pointer(Met::Right) => copy(alloc, t),
         CommonType::Pointer(Met::VoidPointer) => pointer_to(alloc, Ty::Void),
     }
 }
@@ -46,7 +46,7 @@ fn forward(
 ) -> Result<Thing, Fault>
     ensures { Gives thing_of result (forward_node at op (expression_of x) (expression_of y) (integer kind)) }
 {
-    let t = copy(&x.get().ty)?;
+    let t = copy(alloc, &x.get().ty)?;
     let y = convert_to_kind(alloc, kind, y)?;
     node(alloc, t, at, ExpressionNode::PointerAdd(op, x, y))
 }
@@ -61,7 +61,7 @@ fn backward(
 ) -> Result<Thing, Fault>
     ensures { Gives thing_of result (backward_node at (expression_of x) (expression_of y) (integer kind)) }
 {
-    let t = copy(&y.get().ty)?;
+    let t = copy(alloc, &y.get().ty)?;
     let x = convert_to_kind(alloc, kind, x)?;
     node(
         alloc,
@@ -74,7 +74,7 @@ fn backward(
 /// `+` of a pointer and a number, in either order (C99 6.5.6).
 fn added(
     alloc: Global,
-    count: u32,
+    count: usize,
     op_at: u32,
     at: Place,
     x: Boxed<Expression>,
@@ -94,7 +94,7 @@ fn added(
 /// `-` of a pointer and a number, or of two pointers (C99 6.5.6).
 fn subtracted(
     alloc: Global,
-    count: u32,
+    count: usize,
     op_at: u32,
     at: Place,
     x: Boxed<Expression>,
@@ -119,7 +119,7 @@ fn subtracted(
 #[tactic(auto, unfolding(c_erasure::specs::Checking::Nodes::computed_in))]
 pub fn computed(
     alloc: Global,
-    count: u32,
+    count: usize,
     op_at: u32,
     at: Place,
     op: BinaryOp,
@@ -216,7 +216,7 @@ pub fn or(
 /// A binary operator.
 pub fn binary(
     alloc: Global,
-    count: u32,
+    count: usize,
     op_at: u32,
     at: Place,
     kind: BinaryKind,

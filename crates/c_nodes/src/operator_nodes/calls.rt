@@ -101,24 +101,24 @@ fn of_library(alloc: Global, which: LibraryFunction) -> Result<Signature, NoMemo
 }
 
 /// The signature that a function type is. What is called begins at `at`.
-fn of_type(at: u32, t: &Ty) -> Result<Signature, Fault>
+fn of_type(alloc: Global, at: u32, t: &Ty) -> Result<Signature, Fault>
     ensures { Gives signature_view result (signature_of at (Some (type_of t.now))) }
 {
-    match t {
+    match copy(alloc, t)? {
         Ty::Function(result, parameters) => Ok(Signature {
-            parameters: parameters.again()?,
-            result: copy(result.get())?,
+            parameters,
+            result: copy(alloc, result.get())?,
         }),
         _ => Err(Fault::IllTyped(Rule::Callee, at)),
     }
 }
 
 /// The signature of the function to which a value of a type points. What is called begins at `at`.
-fn of_pointed(at: u32, t: &Ty) -> Result<Signature, Fault>
+fn of_pointed(alloc: Global, at: u32, t: &Ty) -> Result<Signature, Fault>
     ensures { Gives signature_view result (signature_of at (pointed_type (type_of t.now))) }
 {
     match t {
-        Ty::Pointer(to) => of_type(at, to.get()),
+        Ty::Pointer(to) => of_type(alloc, at, to.get()),
         _ => Err(Fault::IllTyped(Rule::Callee, at)),
     }
 }
@@ -129,9 +129,9 @@ pub fn signature_of(alloc: Global, at: u32, thing: &Thing) -> Result<Signature, 
     ensures { Gives signature_view result (signature_in at (thing_of thing.now)) }
 {
     match thing {
-        Thing::Object(p) => of_pointed(at, &p.get().ty),
-        Thing::Value(e) | Thing::FunctionAt(e) => of_pointed(at, &e.get().ty),
-        Thing::Function(_, _, t) => of_type(at, t),
+        Thing::Object(p) => of_pointed(alloc, at, &p.get().ty),
+        Thing::Value(e) | Thing::FunctionAt(e) => of_pointed(alloc, at, &e.get().ty),
+        Thing::Function(_, _, t) => of_type(alloc, at, t),
         Thing::LibraryFunction(_, which) => Ok(of_library(alloc, *which)?),
     }
 }

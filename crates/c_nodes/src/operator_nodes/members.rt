@@ -11,7 +11,7 @@ use crate::fault::Fault;
 use crate::making::{misplaced, way};
 use c_annotated::{Expression, Path, PathNode, Thing};
 use c_types::{Field, Records, Ty, copy};
-use lay_base::{Boxed, NoMemory, Place, Rule, boxed};
+use lay_base::{Boxed, Place, Rule, boxed};
 use std::alloc::Global;
 
 /// The first of some fields that has a name, with its number.
@@ -28,11 +28,11 @@ fn field_named<'a>(fields: &'a [Field], x: &[u8]) -> Option<(usize, &'a Ty)>
 }
 
 /// The first field with a name of the record with that number.
-fn field_of_record<'a>(records: &'a Records, r: u32, x: &[u8]) -> Option<(usize, &'a Ty)>
+fn field_of_record<'a>(records: &'a Records, r: usize, x: &[u8]) -> Option<(usize, &'a Ty)>
     ensures { MatchOption result (field_in (slice_get (records_of records.now) r) x.now ≡ None)
         (λ it. field_in (slice_get (records_of records.now) r) x.now ≡ Some (it.0, type_of it.1.now)) }
 {
-    match records.as_slice().get(r as usize) {
+    match records.as_slice().get(r) {
         Some(record) => field_named(record.fields.as_slice(), x),
         None => None,
     }
@@ -45,16 +45,13 @@ fn field(
     named: u32,
     at: Place,
     p: Boxed<Path>,
-    r: u32,
+    r: usize,
     x: &[u8],
 ) -> Result<Thing, Fault>
     ensures { Gives thing_of result (member_to named at (path_of p) r (field_in (slice_get (records_of records.now) r) x.now)) }
 {
     match field_of_record(records, r, x) {
-        Some((number, t)) => match u32::try_from(number) {
-            Ok(number) => way(alloc, copy(t)?, at, PathNode::Member(p, r, number)),
-            Err(_) => Err(Fault::Memory(NoMemory::unearned())),
-        },
+        Some((number, t)) => way(alloc, copy(alloc, t)?, at, PathNode::Member(p, r, number)),
         None => Err(Fault::IllTyped(Rule::Member, named)),
     }
 }
@@ -63,7 +60,7 @@ fn field(
 fn member(
     alloc: Global,
     records: &Records,
-    count: u32,
+    count: usize,
     named: u32,
     at: Place,
     p: Boxed<Path>,
@@ -89,7 +86,7 @@ fn member(
 pub fn dot(
     alloc: Global,
     records: &Records,
-    count: u32,
+    count: usize,
     named: u32,
     at: Place,
     thing: Thing,
@@ -111,7 +108,7 @@ pub fn dot(
 pub fn arrow(
     alloc: Global,
     records: &Records,
-    count: u32,
+    count: usize,
     named: u32,
     at: Place,
     e: Boxed<Expression>,
@@ -121,7 +118,7 @@ pub fn arrow(
 {
     match &e.get().ty {
         Ty::Pointer(to) => {
-            let ty = copy(to.get())?;
+            let ty = copy(alloc, to.get())?;
             let node = PathNode::Deref(e);
             let p = boxed(
                 alloc,

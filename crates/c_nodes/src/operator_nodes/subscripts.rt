@@ -26,13 +26,13 @@ pub enum Subscripted {
 
 /// Whether an array object is subscripted.
 #[tactic(auto, unfolding(c_erasure::specs::Checking::Nodes::array_of))]
-pub fn array_of(thing: Thing) -> Result<Subscripted, NoMemory>
+pub fn array_of(alloc: Global, thing: Thing) -> Result<Subscripted, NoMemory>
     ensures { ArrayGives (thing_of thing) result }
 {
     match thing {
         Thing::Object(p) => match &p.get().ty {
             Ty::Array(element, _) => {
-                let element = copy(element.get())?;
+                let element = copy(alloc, element.get())?;
                 Ok(Subscripted::Array(p, element))
             }
             _ => Ok(Subscripted::Other(Thing::Object(p))),
@@ -83,7 +83,7 @@ fn pointer_first(
 {
     match &e.get().ty {
         Ty::Pointer(t) => {
-            let t = copy(t.get())?;
+            let t = copy(alloc, t.get())?;
             let i = promote(alloc, i)?;
             way(alloc, t, at, PathNode::Index(e, i))
         }
@@ -102,8 +102,8 @@ fn number_first(
 {
     match &e.get().ty {
         Ty::Pointer(t) => {
-            let t = copy(t.get())?;
-            let ty = copy(&e.get().ty)?;
+            let t = copy(alloc, t.get())?;
+            let ty = copy(alloc, &e.get().ty)?;
             let i = promote(alloc, i)?;
             let node = ExpressionNode::PointerAdd(PointerOp::Add, i, e);
             let sum = boxed(
@@ -125,7 +125,7 @@ fn number_first(
 #[tactic(auto, unfolding(c_erasure::specs::Checking::Nodes::index_in))]
 pub fn index(
     alloc: Global,
-    count: u32,
+    count: usize,
     left: u32,
     at: Place,
     x: Boxed<Expression>,

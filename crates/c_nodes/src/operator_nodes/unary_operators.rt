@@ -21,7 +21,7 @@ use std::alloc::Global;
 #[tactic(auto, unfolding(c_erasure::specs::Checking::Nodes::step_in))]
 pub fn step(
     alloc: Global,
-    count: u32,
+    count: usize,
     from: u32,
     op_at: u32,
     at: Place,
@@ -34,7 +34,7 @@ pub fn step(
     match thing {
         Thing::Object(p) => {
             if is_stepped(count, &p.get().ty) {
-                let t = copy(&p.get().ty)?;
+                let t = copy(alloc, &p.get().ty)?;
                 node(alloc, t, at, ExpressionNode::Step(op, before, p))
             } else {
                 Err(Fault::IllTyped(Rule::Operands, op_at))
@@ -59,7 +59,7 @@ pub fn address(alloc: Global, from: u32, at: Place, thing: Thing) -> Result<Thin
     match thing {
         Thing::Object(p) => {
             if is_pointed_to(&p.get().ty) {
-                let t = pointer_to(alloc, copy(&p.get().ty)?)?;
+                let t = pointer_to(alloc, copy(alloc, &p.get().ty)?)?;
                 node(alloc, t, at, ExpressionNode::AddressOf(p))
             } else {
                 Err(Fault::TooBig(at.at))
@@ -80,7 +80,7 @@ pub fn address(alloc: Global, from: u32, at: Place, thing: Thing) -> Result<Thin
 
 /// `*`
 #[tactic(auto, unfolding(c_erasure::specs::Checking::Nodes::deref_in))]
-pub fn deref(alloc: Global, count: u32, at: Place, e: Boxed<Expression>) -> Result<Thing, Fault>
+pub fn deref(alloc: Global, count: usize, at: Place, e: Boxed<Expression>) -> Result<Thing, Fault>
     ensures { Gives thing_of result (deref_in count at (expression_of e)) }
 {
     match &e.get().ty {
@@ -88,7 +88,7 @@ pub fn deref(alloc: Global, count: u32, at: Place, e: Boxed<Expression>) -> Resu
             if is_function(to.get()) {
                 Ok(Thing::FunctionAt(e))
             } else if is_object(count, to.get()) {
-                let t = copy(to.get())?;
+                let t = copy(alloc, to.get())?;
                 way(alloc, t, at, PathNode::Deref(e))
             } else {
                 Err(Fault::IllTyped(Rule::Incomplete, at.at))

@@ -11,17 +11,15 @@ use std::marker::Model;
 /// Keys, each once, in the order in which they came, of which one is found in constant time.
 #[derive(Drop)]
 pub struct KeyTable {
-    keys: IndexSet<Vec<u32>>,
+    keys: IndexSet<Vec<u64>>,
 }
 
 impl Model for KeyTable {
-    ghost use Rattle.std.specs.Prelude.{ℕ, ◌<◌, ◌^◌, List, length, map};
+    ghost use Rattle.std.specs.Prelude.{ℕ, List, map};
 
     ghost Value = { List (List ℕ) };
 
     ghost view = { λ it. map (λ key. key.items) it.keys.keys };
-
-    ghost invariant = { λ it. length it.keys.keys < 2 ^ 32 };
 }
 
 impl KeyTable {
@@ -35,27 +33,24 @@ impl KeyTable {
     }
 
     /// How many keys there are.
-    pub fn len(&self) -> u32
+    pub fn len(&self) -> usize
         ensures { result ≡ length self.now }
     {
-        self.keys.len() as u32
+        self.keys.len()
     }
 
     /// The number of a key, which is that of all keys where it is not among them.
-    pub fn number(&self, key: &[u32]) -> u32
+    pub fn number(&self, key: &[u64]) -> usize
         ensures { result ≡ position self.now key.now }
     {
-        self.keys.get_index_of(key).unwrap_or(self.keys.len()) as u32
+        self.keys.get_index_of(key).unwrap_or(self.keys.len())
     }
 
-    /// Adds a key after the others, where it is not among them. There is no room for more than `u32::MAX` keys.
-    pub fn add(&mut self, key: Vec<u32>) -> Result<(), NoMemory>
+    /// Adds a key after the others, where it is not among them.
+    pub fn add(&mut self, key: Vec<u64>) -> Result<(), NoMemory>
         ensures added { OnOk result (self.new ≡ with_key self.old key.items) }
         ensures unchanged { OnErr result (self.new ≡ self.old) }
     {
-        if self.keys.len() >= u32::MAX as usize {
-            return Err(NoMemory::unearned());
-        }
         put_key(&mut self.keys, key)?;
         Ok(())
     }

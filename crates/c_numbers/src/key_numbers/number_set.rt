@@ -12,7 +12,7 @@ use std::marker::Model;
 /// Numbers, each once, in the order in which they came, of which one is found in constant time.
 #[derive(Drop)]
 pub struct NumberSet {
-    numbers: IndexSet<u32>,
+    numbers: IndexSet<usize>,
 }
 
 impl Model for NumberSet {
@@ -35,7 +35,7 @@ impl NumberSet {
 
     /// Whether a number is there.
     #[tactic(auto, using(crate::proofs::KeyNumbers::Numbers::either_way))]
-    pub fn contains(&self, number: u32) -> bool
+    pub fn contains(&self, number: usize) -> bool
         ensures { result ≡ list_any (λ n. n == number) self.now }
     {
         self.numbers.contains(&number)
@@ -43,7 +43,7 @@ impl NumberSet {
 
     /// Adds a number after the others, where it is not among them.
     #[tactic(auto, using(crate::proofs::KeyNumbers::Numbers::added_is))]
-    pub fn add(&mut self, number: u32) -> Result<(), NoMemory>
+    pub fn add(&mut self, number: usize) -> Result<(), NoMemory>
         ensures added { OnOk result (self.new ≡ with_number self.old number) }
         ensures unchanged { OnErr result (self.new ≡ self.old) }
     {

@@ -8,8 +8,8 @@ use lay_base::List;
 /// What the numbers from 0 on become, and what all others become.
 #[derive(Drop)]
 pub struct Numbers {
-    pub entries: List<u32>,
-    pub otherwise: u32,
+    pub entries: List<usize>,
+    pub otherwise: usize,
 }
 
 /// What the numbers of a tree become. Records past those that a unit completes are among its records.
@@ -23,10 +23,10 @@ pub struct Renumbering {
 
 impl Numbers {
     /// What a number becomes.
-    pub fn at(&self, number: u32) -> u32
+    pub fn at(&self, number: usize) -> usize
         ensures { result ≡ number_at self.now number }
     {
-        match self.entries.get(number as usize) {
+        match self.entries.get(number) {
             Some(entry) => *entry,
             None => self.otherwise,
         }

@@ -8,7 +8,7 @@ use c_types::{IntKind, Ty};
 use lay_base::{NoMemory, push};
 use std::alloc::Global;
 
-fn kind_number(kind: IntKind) -> u32
+fn kind_number(kind: IntKind) -> u64
     ensures { result ≡ kind_number kind }
 {
     match kind {
@@ -24,7 +24,7 @@ fn kind_number(kind: IntKind) -> u32
     }
 }
 
-fn append_two(key: &mut Vec<u32>, first: u32, second: u32) -> Result<(), NoMemory>
+fn append_two(key: &mut Vec<u64>, first: u64, second: u64) -> Result<(), NoMemory>
     ensures { OnOk result (key.new.items ≡ key.old.items ++ first ∷ second ∷ []) }
 {
     push(key, first)?;
@@ -32,7 +32,7 @@ fn append_two(key: &mut Vec<u32>, first: u32, second: u32) -> Result<(), NoMemor
 }
 
 #[tactic(auto, using(crate::proofs::TypeNumbers::Keys::two_appended, crate::proofs::TypeNumbers::Keys::one_appended, crate::proofs::TypeNumbers::Keys::pair_appended))]
-fn append_type(key: &mut Vec<u32>, t: &Ty) -> Result<(), NoMemory>
+fn append_type(key: &mut Vec<u64>, t: &Ty) -> Result<(), NoMemory>
     ensures { OnOk result (key.new.items ≡ key.old.items ++ type_key (type_of t.now)) }
 {
     match t {
@@ -55,12 +55,12 @@ fn append_type(key: &mut Vec<u32>, t: &Ty) -> Result<(), NoMemory>
             }
             push(key, 0)
         }
-        Ty::Record(number) => append_two(key, 5, *number),
+        Ty::Record(number) => append_two(key, 5, *number as u64),
     }
 }
 
 /// The key of a type.
-pub fn type_key(alloc: Global, t: &Ty) -> Result<Vec<u32>, NoMemory>
+pub fn type_key(alloc: Global, t: &Ty) -> Result<Vec<u64>, NoMemory>
     ensures { IfOk result (λ key. key.items ≡ type_key (type_of t.now)) }
 {
     let mut key = Vec::new(alloc);
@@ -69,13 +69,13 @@ pub fn type_key(alloc: Global, t: &Ty) -> Result<Vec<u32>, NoMemory>
 }
 
 /// A number by which a type is looked for before its key is made.
-pub fn hint(t: &Ty) -> u32 {
+pub fn hint(t: &Ty) -> u64 {
     match t {
         Ty::Void => 0,
         Ty::Int(kind) => kind_number(*kind).wrapping_add(1),
         Ty::Pointer(to) => hint(to.get()).wrapping_mul(11).wrapping_add(16),
         Ty::Array(element, length) => hint(element.get()).wrapping_mul(37).wrapping_add(*length),
         Ty::Function(result, _) => hint(result.get()).wrapping_add(512),
-        Ty::Record(number) => number.wrapping_add(256),
+        Ty::Record(number) => (*number as u64).wrapping_add(256),
     }
 }

@@ -21,7 +21,7 @@ pub struct TypeTable {
     keys: KeyTable,
     types: Vec<Ty>,
     // Where a type may be, by its hint. One that is not there is looked up by its key, which takes memory.
-    hints: [u32; HINTS],
+    hints: [usize; HINTS],
 }
 
 impl Model for TypeTable {
@@ -43,9 +43,9 @@ impl Model for TypeTable {
 }
 
 /// Notes the number of a type with that hint, where none before it has the hint.
-fn note(hints: &mut [u32; HINTS], hint: u32, number: u32) {
+fn note(hints: &mut [usize; HINTS], hint: u64, number: usize) {
     let at = hint as usize % HINTS;
-    if hints[at] == u32::MAX {
+    if hints[at] == usize::MAX {
         hints[at] = number;
     }
 }
@@ -58,24 +58,24 @@ impl TypeTable {
         TypeTable {
             keys: KeyTable::new(alloc),
             types: Vec::new(alloc),
-            hints: [u32::MAX; HINTS],
+            hints: [usize::MAX; HINTS],
         }
     }
 
     /// The number of a type, where it is at its hint.
-    fn hinted(&self, t: &Ty) -> Option<u32>
+    fn hinted(&self, t: &Ty) -> Option<usize>
         ensures is { IfSome result (λ n. n ≡ number_in (map type_of self.now) (type_of t.now)) }
         ensures there { IfSome result (λ _. map type_of self.now ≡ with_type (map type_of self.now) (type_of t.now)) }
     {
         let n = self.hints[hint(t) as usize % HINTS];
-        match self.types.get(n as usize) {
+        match self.types.get(n) {
             Some(found) if same(found, t) => Some(n),
             _ => None,
         }
     }
 
     /// The number of a type, which is that of all types where it is not among them.
-    pub fn number(&self, alloc: Global, t: &Ty) -> Result<u32, NoMemory>
+    pub fn number(&self, alloc: Global, t: &Ty) -> Result<usize, NoMemory>
         ensures { IfOk result (λ n. n ≡ number_in (map type_of self.now) (type_of t.now)) }
     {
         if let Some(n) = self.hinted(t) {
@@ -110,7 +110,7 @@ impl TypeTable {
         if let Some(_) = self.hinted(t) {
             return Ok(());
         }
-        let t = copy(t)?;
+        let t = copy(alloc, t)?;
         self.add(alloc, t)
     }
 

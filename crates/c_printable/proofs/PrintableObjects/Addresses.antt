@@ -11,7 +11,7 @@ use Rattle.c_typed.specs.declared.operators.PointerOp.TheVariants as P
 use Rattle.c_typed.specs.Trees as Trees
 use Rattle.c_typed.specs.Conversions.{is_pointer}
 use Rattle.c_typed.specs.Constants.{Constant, none, undefined, valued, ty, constant_of, is_zero, is_null}
-use Rattle.c_typed.specs.InitialValues.{Address, InitialValue, a_number, a_null, an_address, a_function, element_size, number_in, within, moved, subscripted}
+use Rattle.c_typed.specs.InitialValues.{Address, InitialValue, a_number, a_null, an_address, a_function, element_size, number_in, end_of, within, moved, subscripted}
 use Rattle.c_typed.specs.InitialValues.{inside}
 use Rattle.c_typed.specs.Subscripts.{is_subscript}
 use Rattle.c_typed.specs.InitialValues.{or_negated, path_type, address_of_path, address_of_step, address_in, address_in_node, function_in, function_in_node}
@@ -61,7 +61,7 @@ module _ (d : Declared) where
   within_same : (n : ℕ) (z : ℤ) (a : Address) → within d n z ≡ Some a → a.object ≡ n
   within_same n (negsuc k) a h = cc
   within_same n (pos k) a h =
-      let c = if_some (nat_le k (size_of d.records (get_or d.objects n void))) (Some (record { object = n; offset = k })) a h in
+      let c = if_some (nat_le k (end_of d n)) (Some (record { object = n; offset = k })) a h in
       sym (ap (λ (a : Address). a.object) (some_is (record { object = n; offset = k }) a c.1))
 
   -- a place so far from another is in the same object, and the distance is known

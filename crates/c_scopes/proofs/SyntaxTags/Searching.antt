@@ -38,20 +38,6 @@ pub counted : (places : List ℕ) (at low high : ℕ) → Between places at low 
 counted places at low high b h =
     sym (all_ended places at low (omega (arith, b.in_order, b.within)) b.below (λ k l g. b.above k (omega (arith, b.in_order, h, l)) g))
 
-follows : (places : List ℕ) → AreAscending places → (k : ℕ) → suc k < length places → get_or places k 0 < get_or places (suc k) 0
-follows [] a k h = absurd (omega arith)
-follows (x ∷ places) a zero h = a.0 0 0 (omega arith)
-follows (x ∷ places) a (suc k) h = follows places a.1 k (omega arith)
-
-reaches : (places : List ℕ) → AreAscending places → (k : ℕ) → k < length places → k ≤ get_or places k 0
-reaches places a zero h = omega arith
-reaches places a (suc k) h = omega (arith, reaches places a k (omega arith), follows places a k h)
-
--- before a byte no more places stand than there are bytes
-pub few_below : (places : List ℕ) → AreAscending places → (at low high : ℕ) → Between places at low high → low ≤ at
-few_below places a at zero high b = omega arith
-few_below places a at (suc k) high b = omega (arith, reaches places a k (omega (arith, b.in_order, b.within)), b.below k (omega arith))
-
 pub lower : (places : List ℕ) → AreAscending places → (at low high middle : ℕ) → Between places at low high → low ≤ middle → middle < high
     → get_or places middle 0 < at → Between places at (middle + 1) high
 lower places a at low high middle b l h lt = record {

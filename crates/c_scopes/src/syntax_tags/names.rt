@@ -16,7 +16,7 @@ use std::marker::Model;
 pub struct Names {
     // The list that contracts speak of. The table has each name once.
     names: Vec<Name>,
-    places: IndexMap<Vec<u8>, u32>,
+    places: IndexMap<Vec<u8>, usize>,
 }
 
 impl Model for Names {
@@ -33,10 +33,10 @@ impl Model for Names {
 
 /// Notes the place of a name that has none yet.
 fn note(
-    places: &mut IndexMap<Vec<u8>, u32>,
+    places: &mut IndexMap<Vec<u8>, usize>,
     alloc: Global,
     name: &[u8],
-    place: u32,
+    place: usize,
 ) -> Result<(), NoMemory>
     ensures noted { OnOk result ((x : List ℕ) →
         found_at places.new.entries x ≡ or_else (found_at places.old.entries x) (if bytes_eq x name.now then Some place else None)) }
@@ -77,19 +77,19 @@ impl Names {
     }
 
     /// The first place of a name.
-    pub fn number_of(&self, name: &[u8]) -> Option<u32>
+    pub fn number_of(&self, name: &[u8]) -> Option<usize>
         ensures { result ≡ number_in self.now name.now }
     {
         self.places.get(name).copied()
     }
 
-    /// Adds a name after the others, which may have it already. 2^32 names do not fit.
+    /// Adds a name after the others, which may have it already.
     pub fn add(&mut self, alloc: Global, name: &[u8]) -> Result<(), NoMemory>
         ensures added { OnOk result (self.new ≡ self.old ++ name.now ∷ []) }
         ensures unchanged { OnErr result (self.new ≡ self.old) }
     {
         let copy = copied(alloc, name)?;
-        let place = u32::try_from(self.names.len()).map_err(|_| NoMemory::unearned())?;
+        let place = self.names.len();
         reserve(&mut self.names, 1)?;
         note(&mut self.places, alloc, name, place)?;
         self.names.push_reserved(Name::of(copy));

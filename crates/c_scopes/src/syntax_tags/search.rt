@@ -5,7 +5,7 @@ ghost use Rattle.c_erasure.specs.Files.{AreAscending};
 ghost use Rattle.c_erasure.specs.Scopes.{ended};
 
 /// How many of the places stand before a byte.
-pub fn ended(places: &[u32], at: u32) -> u32
+pub fn ended(places: &[u32], at: u32) -> usize
     requires order { AreAscending places.now }
     ensures { result ≡ ended places.now at }
 {
@@ -19,5 +19,5 @@ pub fn ended(places: &[u32], at: u32) -> u32
             high = middle;
         }
     }
-    low as u32
+    low
 }

@@ -63,14 +63,14 @@ impl Tags {
     }
 
     /// The number of a structure, by its tag.
-    pub fn number_of(&self, tag: &[u8]) -> Option<u32>
+    pub fn number_of(&self, tag: &[u8]) -> Option<usize>
         ensures { result ≡ number_in self.now.numbered tag.now }
     {
         self.numbered.number_of(tag)
     }
 
     /// How many definitions of structures ended before byte `at`.
-    pub fn ended(&self, at: u32) -> u32
+    pub fn ended(&self, at: u32) -> usize
         ensures { result ≡ ended self.now.ends at }
     {
         ended(&self.ends, at)

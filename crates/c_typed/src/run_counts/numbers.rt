@@ -9,15 +9,14 @@ use crate::program::Typed;
 use crate::run_counts::loops::loops_of;
 
 /// How many records there are.
-pub fn record_count(p: &Typed) -> u32
+pub fn record_count(p: &Typed) -> usize
     ensures { result ≡ length p.now.records }
 {
     p.records.len()
 }
 
 /// How many functions the program defines.
-pub fn function_count(p: &Typed) -> u32
-    requires { length (defined_in (program_data p.now)) < 2 ^ 32 }
+pub fn function_count(p: &Typed) -> usize
     ensures { result ≡ length (defined_in (program_data p.now)) }
 {
     let mut count = 0;
@@ -30,10 +29,10 @@ pub fn function_count(p: &Typed) -> u32
 }
 
 /// How many loops the function of that number has.
-pub fn loop_count(p: &Typed, f: u32) -> u32
+pub fn loop_count(p: &Typed, f: usize) -> u32
     requires within { f < length p.now.functions }
     requires small { loops_at (program_data p.now) f < 2 ^ 32 }
     ensures { result ≡ loops_at (program_data p.now) f }
 {
-    loops_of(&p.functions.as_slice()[f as usize])
+    loops_of(&p.functions.as_slice()[f])
 }

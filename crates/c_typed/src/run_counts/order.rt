@@ -1,6 +1,6 @@
 //! The order of the functions in counts.
 
-ghost use Rattle.std.specs.Prelude.{◌≡◌, ◌<◌, ◌^◌, IfOk, length};
+ghost use Rattle.std.specs.Prelude.{◌≡◌, IfOk};
 ghost use Rattle.c_typed.specs.RunCounts.Order.{defined_in, profile_order};
 ghost use Rattle.c_typed.specs.Programs.{program_data};
 
@@ -11,20 +11,19 @@ use std::alloc::Global;
 /// A function that a program defines: its number in the program, and the place of its definition.
 #[derive(Clone, Copy)]
 pub struct Defined {
-    pub number: u32,
+    pub number: usize,
     pub place: Place,
 }
 
 /// The functions that a program defines, by their numbers.
 fn defined_in(alloc: Global, p: &Typed) -> Result<Vec<Defined>, NoMemory>
-    requires { length p.now.functions < 2 ^ 32 }
     ensures { IfOk result (λ all. all.items ≡ defined_in (program_data p.now)) }
 {
     let mut all = Vec::new(alloc);
     for (number, f) in p.functions.as_slice().iter().enumerate() {
         if f.body.is_some() {
             let defined = Defined {
-                number: number as u32,
+                number,
                 place: f.place,
             };
             push(&mut all, defined)?;
@@ -35,7 +34,6 @@ fn defined_in(alloc: Global, p: &Typed) -> Result<Vec<Defined>, NoMemory>
 
 /// The functions that a program defines, in the order of the files and places of their definitions.
 pub fn profile_order(alloc: Global, p: &Typed) -> Result<Vec<Defined>, NoMemory>
-    requires { length p.now.functions < 2 ^ 32 }
     ensures { IfOk result (λ order. order.items ≡ profile_order (program_data p.now)) }
 {
     let mut order = defined_in(alloc, p)?;

@@ -39,7 +39,7 @@ pub fn check_number(names: &[&str]) -> Result<(), Refusal>
     ensures { NumberGives (length names.now) result }
 {
     if names.len() > MOST_FILES {
-        return Err(Refusal::Limit(LimitKind::Files, names.len() as u64));
+        return Err(Refusal::Limit(LimitKind::Files, names.len() as u128));
     }
     Ok(())
 }

@@ -91,9 +91,9 @@ four_of_pointer (T.Function type f) = four_pointer type (P.Function f)
 abbrev pub cell_of_part : Part → Cell
 cell_of_part R.Empty = Empty
 cell_of_part (R.Byte x) = Byte x
-cell_of_part (R.Null k type) = Fragment type P.Null k
-cell_of_part (R.Block k type low high at) = Fragment type (P.Block (low + 2 ^ 32 * high) at) k
-cell_of_part (R.Function k type f) = Fragment type (P.Function f) k
+cell_of_part (R.Null k s t) = Fragment (s + 2 ^ 32 * t) P.Null k
+cell_of_part (R.Block k s t b c at) = Fragment (s + 2 ^ 32 * t) (P.Block (b + 2 ^ 32 * c) at) k
+cell_of_part (R.Function k s t f g) = Fragment (s + 2 ^ 32 * t) (P.Function (f + 2 ^ 32 * g)) k
 
 abbrev pub four_of_group : Group → Four
 four_of_group g = record { a = cell_of_part g.a; b = cell_of_part g.b; c = cell_of_part g.c; d = cell_of_part g.d }

@@ -9,5 +9,5 @@ pub enum Cell {
     Empty,
     Byte(u8),
     /// Of a pointer that was stored: the number of its pointer type, the pointer, and which of its four bytes this is, from 0 on.
-    Fragment(u32, Ptr, u8),
+    Fragment(usize, Ptr, u8),
 }

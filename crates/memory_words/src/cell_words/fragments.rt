@@ -32,7 +32,7 @@ fn is_same(p: Ptr, q: Ptr) -> bool
 }
 
 /// Whether a cell is a pointer's k-th fragment.
-fn is_fragment(cell: Cell, type_number: u32, p: Ptr, k: u8) -> bool
+fn is_fragment(cell: Cell, type_number: usize, p: Ptr, k: u8) -> bool
     ensures { result ≡ is_fragment type_number p k cell }
 {
     match cell {
@@ -43,7 +43,7 @@ fn is_fragment(cell: Cell, type_number: u32, p: Ptr, k: u8) -> bool
 }
 
 /// Whether four cells are the fragments of a pointer, in their order.
-pub fn are_fragments(four: Four, type_number: u32, p: Ptr) -> bool
+pub fn are_fragments(four: Four, type_number: usize, p: Ptr) -> bool
     ensures { result ≡ are_fragments type_number p 0 (cells_of four) }
 {
     let first = is_fragment(four.a, type_number, p, 0);
@@ -55,7 +55,7 @@ pub fn are_fragments(four: Four, type_number: u32, p: Ptr) -> bool
 
 /// The pointer of a type whose fragments four cells are, if there is one.
 #[tactic(auto, using(crate::proofs::CellWords::Contents::fragments_are))]
-pub(crate) fn pointer_in_four(four: Four, type_number: u32) -> Option<Ptr>
+pub(crate) fn pointer_in_four(four: Four, type_number: usize) -> Option<Ptr>
     ensures { PointerIn type_number four result }
 {
     match four.a {

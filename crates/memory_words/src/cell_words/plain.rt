@@ -32,7 +32,7 @@ fn content_of(cell: Cell) -> Option<Content>
 }
 
 /// The fragments of a pointer.
-pub fn four_pointer(type_number: u32, p: Ptr) -> Four
+pub fn four_pointer(type_number: usize, p: Ptr) -> Four
     ensures { result ≡ four_pointer type_number p }
 {
     Four {
@@ -86,7 +86,7 @@ pub(crate) fn whole(word: Word) -> Four
             c: cell_of(content_by(gaps / 4 % 2, c)),
             d: cell_of(content_by(gaps / 8 % 2, d)),
         },
-        Word::Null(t) => four_pointer(t, Ptr::Null),
+        Word::Null(t) => four_pointer(t as usize, Ptr::Null),
         Word::Pointer(_) => unreachable!(),
         Word::Group(_) => unreachable!(),
     }
@@ -178,7 +178,7 @@ pub(crate) fn plain_word(four: Four) -> Option<Word>
 
 /// The type and the pointer of which four cells are the fragments.
 #[tactic(auto, using(crate::proofs::CellWords::Contents::fragments_are))]
-pub(crate) fn fragments_in(four: Four) -> Option<(u32, Ptr)>
+pub(crate) fn fragments_in(four: Four) -> Option<(usize, Ptr)>
     ensures { MatchOption result (Unit {0}) (λ found. four_pointer found.0 found.1 ≡ four) }
 {
     match four.a {

@@ -7,5 +7,5 @@ pub enum Ptr {
     /// A block's number, and an offset in it, in bytes from 0 to the block's size.
     Block(u64, u32),
     /// A function's number in its program.
-    Function(u32),
+    Function(usize),
 }

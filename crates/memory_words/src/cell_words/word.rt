@@ -34,22 +34,22 @@ pub enum Word {
     Group(u32),
 }
 
-/// A whole pointer in the table of pointers, with the number of its type.
+/// A whole pointer in the table of pointers, with the number of its type, where all of these fit 32 bits.
 #[derive(Clone, Copy)]
 pub(crate) enum Pointer {
     Block(u32, u32, u32),
     Function(u32, u32),
 }
 
-/// A cell in twenty bytes. The number of a pointer's block stands in two halves, the low one first.
+/// A cell in 24 bytes. Numbers of 64 bits stand in two halves, the low one first.
 #[derive(Clone, Copy)]
 pub(crate) enum Part {
     Empty,
     Byte(u8),
     /// Which fragment it is, and the pointer with the number of its type.
-    Null(u8, u32),
-    Block(u8, u32, u32, u32, u32),
-    Function(u8, u32, u32),
+    Null(u8, u32, u32),
+    Block(u8, u32, u32, u32, u32, u32),
+    Function(u8, u32, u32, u32, u32),
 }
 
 /// Four cells in the table of groups.
@@ -66,4 +66,4 @@ const _: () = prove!(size_of::<Word>() == 8);
 
 const _: () = prove!(size_of::<Pointer>() == 16);
 
-const _: () = prove!(size_of::<Group>() == 80);
+const _: () = prove!(size_of::<Group>() == 96);

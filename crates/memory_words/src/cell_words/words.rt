@@ -92,12 +92,12 @@ impl Words {
 
     /// The whole pointer of a type that a group holds, if it holds one.
     #[inline(always)]
-    pub fn pointer(&self, i: usize, type_number: u32) -> Option<Ptr>
+    pub fn pointer(&self, i: usize, type_number: usize) -> Option<Ptr>
         requires { i < length self.now }
         ensures { PointerIn type_number (four_at self.now i) result }
     {
         match self.packed.words.get(i) {
-            Word::Null(t) if t == type_number => Some(Ptr::Null),
+            Word::Null(t) if t as usize == type_number => Some(Ptr::Null),
             Word::Pointer(e) => {
                 pointer_in(self.packed.pointers.values.get(e as usize), type_number)
             }
@@ -121,12 +121,14 @@ impl Words {
     }
 
     /// Puts a whole pointer.
-    pub fn put_pointer(&mut self, i: usize, type_number: u32, p: Ptr)
+    pub fn put_pointer(&mut self, i: usize, type_number: usize, p: Ptr)
         requires { i < length self.old }
         ensures { self.new ≡ slice_set self.old i (four_pointer type_number p) }
     {
         match p {
-            Ptr::Null => self.put_whole(i, Word::Null(type_number)),
+            Ptr::Null if type_number < 4_294_967_296 => {
+                self.put_whole(i, Word::Null(type_number as u32));
+            }
             _ => match pointer_of(type_number, p) {
                 Some(pointer) => self.packed.put_pointer(i, pointer),
                 None => self.packed.put_group(i, four_pointer(type_number, p)),

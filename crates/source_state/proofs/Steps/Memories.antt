@@ -163,7 +163,7 @@ end_part b c = record { gives = (with_memory_part (with_end c.memory b) (c.live 
 -- ---- what memory does, or is undefined
 
 -- so many bytes live in it
-abbrev LivesIn : ℕ → Tested Memory → Type 0
+abbrev pub LivesIn : ℕ → Tested Memory → Type 0
 LivesIn n (Ok m) = n ≡ live_bytes m
 LivesIn n (Err kind) = Unit {0}
 
@@ -228,7 +228,7 @@ so_many : (count v : ℕ) → length (bytes_of count v) ≤ count
 so_many zero v = omega arith
 so_many (suc count) v = let h = so_many count (v / 256) in omega (arith, h)
 
-store_lives : (m : Memory) (q : Ptr) (access : Access) (v : Value) → LivesIn (live_bytes m) (store_in m q access v)
+pub store_lives : (m : Memory) (q : Ptr) (access : Access) (v : Value) → LivesIn (live_bytes m) (store_in m q access v)
 store_lives m q (Number kind) (Word n) =
     put_lives m (width kind) _ (place m q (width kind) (width kind) true) (so_many (width kind) _) (place_fits m q (width kind) (width kind) true)
 store_lives m q (Number kind) (Address r) = tt
@@ -258,7 +258,7 @@ store_part at q access v c =
 
 -- ---- ranges
 
-copy_lives : (m : Memory) (to from : Ptr) (count : ℕ) (overlap : Bool) → LivesIn (live_bytes m) (Ranges.copy m to from count overlap)
+pub copy_lives : (m : Memory) (to from : Ptr) (count : ℕ) (overlap : Bool) → LivesIn (live_bytes m) (Ranges.copy m to from count overlap)
 copy_lives m to from zero overlap = refl
 copy_lives m to from (suc n) overlap = one (place m to (suc n) 1 true) (place m from (suc n) 1 false) (place_fits m to (suc n) 1 true)
   where
@@ -276,7 +276,7 @@ copy_lives m to from (suc n) overlap = one (place m to (suc n) 1 true) (place m 
     one (Ok a) (Err kind) fits = tt
     one (Ok a) (Ok b) fits = two a b (overlap || not (do_overlap a b (suc n))) fits
 
-fill_lives : (m : Memory) (to : Ptr) (byte count : ℕ) → LivesIn (live_bytes m) (Ranges.fill m to byte count)
+pub fill_lives : (m : Memory) (to : Ptr) (byte count : ℕ) → LivesIn (live_bytes m) (Ranges.fill m to byte count)
 fill_lives m to byte zero = refl
 fill_lives m to byte (suc n) =
     let h = length-replicate (suc n) (Byte byte) in
@@ -294,7 +294,7 @@ fill_part at to byte count c =
 
 -- ---- allocations
 
-free_lives : (m : Memory) (q : Ptr) → LivesIn (live_bytes m - freed_size m q) (Lifetimes.free m q)
+pub free_lives : (m : Memory) (q : Ptr) → LivesIn (live_bytes m - freed_size m q) (Lifetimes.free m q)
 free_lives m P.Null = omega arith
 free_lives m (P.Function f) = tt
 free_lives m (P.Block b (suc at)) = tt

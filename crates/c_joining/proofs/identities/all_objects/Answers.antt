@@ -9,6 +9,6 @@ use Rattle.c_joining.proofs.identities.all_objects.Goals as goal
 
 pub returns : goal.returns
 returns c =
-    let e = drop_all c.loop-u.u-index c.args.units.now c.loop-u-test.false in
-    ap (λ rest. fold with_key c.loop-u.keys (flat_map (λ u. object_identities u.0 0 u.1.objects) (numbered_from c.loop-u.k (map unit_data rest)))) (sym e)
-    ∙ c.loop-u.invariant ∙ all_new _
+    let e = drop_all c.loop-k.k c.args.units.now c.loop-k-test.false in
+    ap (λ rest. fold with_key c.loop-k.keys (flat_map (λ u. object_identities u.0 0 u.1.objects) (numbered_from c.loop-k.k (map unit_data rest)))) (sym e)
+    ∙ c.loop-k.invariant ∙ all_new _

@@ -5,6 +5,6 @@ use Rattle.c_typed.specs.Programs.{unit_data}
 use Rattle.c_joining.specs.Joining.{object_identities, numbered_from}
 use Rattle.c_joining.proofs.identities.all_objects.Given as goal
 
-abbrev pub invariant-loop-u : goal.invariant-loop-u
-invariant-loop-u l = fold with_key l.keys (flat_map (λ u. object_identities u.0 0 u.1.objects) (numbered_from l.k (map unit_data (drop l.u-index l.units))))
+abbrev pub invariant-loop-k : goal.invariant-loop-k
+invariant-loop-k l = fold with_key l.keys (flat_map (λ u. object_identities u.0 0 u.1.objects) (numbered_from l.k (map unit_data (drop l.k l.units))))
     ≡ fold with_key [] (flat_map (λ u. object_identities u.0 0 u.1.objects) (numbered_from 0 (map unit_data l.units)))

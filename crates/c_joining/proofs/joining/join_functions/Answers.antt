@@ -18,10 +18,9 @@ loop-f-preserved c =
     let number = λ (n : ℕ). position keys (identity c.args.unit f.linked f.name n) in
     let all = map data_of c.loop-f.all.items in
     let e : map data_of c.join_function.new.all.items ≡ place is_function_defined all (number c.loop-f.n) (function_in m (data_of f)) = search rules in
-    let k : c.in_ok-n.n ≡ c.loop-f.n + 1 = search rules in
     let q : c.loop-f.n ≡ 0 + length (map data_of ys) = omega (arith, c.loop-f.invariant.number, length-map ys data_of) in
     record {
-      number = omega (arith, k, c.loop-f.invariant.number, length_push ys f);
+      number = omega (arith, c.loop-f.invariant.number, length_push ys f);
       functions = e ∙ ap (λ n. place is_function_defined all (number n) (function_in m (data_of f))) q
           ∙ ap (λ them. place is_function_defined them (number (0 + length (map data_of ys))) (function_in m (data_of f))) c.loop-f.invariant.functions
           ∙ sym (one_more_function is_function_defined keys c.args.unit 0 (function_in m) (map data_of c.args.all.now.items) (map data_of ys) (data_of f))

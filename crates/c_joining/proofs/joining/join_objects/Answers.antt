@@ -16,10 +16,9 @@ loop-o-preserved c =
     let keys = c.args.keys.now in
     let number = λ (n : ℕ). position keys (identity c.args.unit o.linked o.name n) in
     let e : c.join_object.new.all.items ≡ place is_object_defined c.loop-o.all.items (number c.loop-o.n) (object_in m o) = search rules in
-    let k : c.in_ok-n.n ≡ c.loop-o.n + 1 = search rules in
     let q : c.loop-o.n ≡ 0 + length ys = omega (arith, c.loop-o.invariant.number) in
     record {
-      number = omega (arith, k, c.loop-o.invariant.number, length_push ys o);
+      number = omega (arith, c.loop-o.invariant.number, length_push ys o);
       objects = e ∙ ap (λ n. place is_object_defined c.loop-o.all.items (number n) (object_in m o)) q
           ∙ ap (λ all. place is_object_defined all (number (0 + length ys)) (object_in m o)) c.loop-o.invariant.objects
           ∙ sym (one_more_object is_object_defined keys c.args.unit 0 (object_in m) c.args.all.now.items ys o);

@@ -2,8 +2,8 @@ use Rattle.std.proofs.Common.{◌≡◌, ◌≤◌, ◌<◌, ◌∙◌, length, 
 use Rattle.c_joining.proofs.Placed.{on_ok, past, replaced, stays}
 use Rattle.c_joining.proofs.placing.put.Goals as goal
 
-pub returns-then-n-len : goal.returns-then-n-len
-returns-then-n-len g c =
+pub returns-then-number-len : goal.returns-then-number-len
+returns-then-number-len g c =
     let all = c.args.all.now.items in
     let h : length all ≤ c.args.number = search rules in
     on_ok c.push.result (λ e. e ∙ past c.args.replaces all c.args.number c.args.it h) c.push.ensures.pushed

@@ -1,11 +1,12 @@
-use Rattle.std.proofs.Common.{◌≡◌, ◌∙◌, [], true, ap, fold, map}
+use Rattle.std.proofs.Common.{◌≡◌, ◌∙◌, [], true, ap, fold, map, subst, sym}
 use Rattle.std.specs.Prelude.{codes, flat_map}
 use Rattle.c_typed.specs.Programs.{ProgramData, unit_data}
 use Rattle.c_numbers.specs.KeyNumbers.Keys.{position}
 use Rattle.c_joining.specs.Joining.{Tables, named, numbered_from, records_in, tables}
 use Rattle.c_joining.specs.Placing.{placed}
+use Rattle.c_joining.specs.Records.{AreWhole}
 use Rattle.c_joining.specs.Views.{assembled, joined_of, nothing, tables_of, tagged, with_unit}
-use Rattle.c_joining.proofs.Whole.{assembled_is}
+use Rattle.c_joining.proofs.Whole.{assembled_is, records_are}
 use Rattle.c_joining.proofs.program.join.Goals as goal
 
 pub returns : goal.returns
@@ -24,3 +25,13 @@ returns c =
     ∙ ap (assembled (placed (λ r. true) t.tags [] (map tagged (flat_map (records_in t.tags) units))) t.types (fold (with_unit t) nothing (numbered_from 0 units)))
     c.in_ok-main.ensures
     ∙ ap whole e ∙ assembled_is units
+
+pub joined_records-requires : goal.joined_records-requires
+joined_records-requires c =
+    let units = map unit_data c.args.units in
+    let t = tables_of c.in_ok-tables.tables in
+    let e : t ≡ tables units = c.in_ok-tables.ensures ∙ ap (λ them. tables (map unit_data them)) c.as_slice.ensures in
+    let a = c.in_ok-all.ensures ∙ ap (λ them. flat_map (records_in t.tags) (map unit_data them)) c.as_slice-2.ensures in
+    subst AreWhole
+    (sym (ap (λ them. placed (λ r. true) t.tags [] (map tagged them)) a
+    ∙ ap (λ (them : Tables). placed (λ r. true) them.tags [] (map tagged (flat_map (records_in them.tags) units))) e ∙ records_are units)) c.requires

@@ -1,11 +1,21 @@
-use Rattle.std.proofs.Common.{◌≡◌, ap, map, subst, sym, rules}
+use Rattle.std.proofs.Common.{◌≡◌, List, All, map, subst, sym, rules}
 use Rattle.c_joining.specs.Joining.{joined}
-use Rattle.c_typed.specs.Programs.{ProgramData, program_data, unit_data}
-use Rattle.c_types.specs.Limits.{AreComplete}
+use Rattle.c_typed.specs.declared.program.Unit.{Unit}
+use Rattle.c_typed.specs.Programs.{UnitData, program_data, unit_data}
+use Rattle.c_types.specs.Limits.{AreSmall}
 use Rattle.c_link.specs.Counting.{AreMeasured}
 use Rattle.c_link.proofs.Lacks.{lack_is_gap}
 use Rattle.c_link.proofs.Measures.{are_measured}
+use Rattle.c_link.proofs.WholeRecords.{whole_records}
 use Rattle.c_link.proofs.linking.whole_program.Goals as goal
+
+abbrev AreAllSmall : List Unit → Type 0
+AreAllSmall units = All (λ (u : UnitData). AreSmall u.records) (map unit_data units)
+
+pub join-requires : goal.join-requires
+join-requires c =
+    let e : c.as_slice.result.now ≡ c.args.units = search rules in
+    whole_records (map unit_data c.args.units) c.requires.agree c.requires.countable (subst AreAllSmall e c.records_are_small.ensures)
 
 pub returns-in-Err : goal.returns-in-Err
 returns-in-Err c =
@@ -18,5 +28,6 @@ pub within_limits-requires : goal.within_limits-requires
 within_limits-requires c =
     let units = map unit_data c.args.units in
     let f : program_data c.in_ok-p.p ≡ joined units = search rules in
-    let e : AreComplete (program_data c.in_ok-p.p).records = search rules in
-    subst AreMeasured (sym f) (are_measured units c.requires.agree (subst AreComplete (ap (λ (p : ProgramData). p.records) f) e) c.requires.countable)
+    let e : c.as_slice.result.now ≡ c.args.units = search rules in
+    let w = whole_records units c.requires.agree c.requires.countable (subst AreAllSmall e c.records_are_small.ensures) in
+    subst AreMeasured (sym f) (are_measured units c.requires.agree w.complete c.requires.countable)

@@ -1,7 +1,4 @@
-use Rattle.c_typed.specs.Programs.{program_data}
 use Rattle.lay_commands.proofs.compiling.outputs_of.Goals as goal
 
-pub report_of-requires-clause-few : goal.report_of-requires-clause-few
-report_of-requires-clause-few c =
-    let within = c.programs_are_within_limits.ensures c.args.inputs.now.source.files (program_data c.args.inputs.now.source.program) c.requires.program in
-    within.fields
+pub compiled-requires-clause-small : goal.compiled-requires-clause-small
+compiled-requires-clause-small c = c.types_are_small.ensures c.args.inputs.now.source.files c.requires.short c.requires.program

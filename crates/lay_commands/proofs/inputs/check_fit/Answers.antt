@@ -2,10 +2,6 @@ use Rattle.lay_commands.proofs.Given.{few_functions, few_loops}
 use Rattle.c_typed.specs.Programs.{program_data}
 use Rattle.lay_commands.proofs.inputs.check_fit.Goals as goal
 
-pub profile_order-requires : goal.profile_order-requires
-profile_order-requires c =
-    few_functions c.args.p.now.functions (c.programs_have_few_functions.ensures c.requires.0 (program_data c.args.p.now) c.requires.1)
-
 pub fits-requires-clause-functions : goal.fits-requires-clause-functions
 fits-requires-clause-functions c =
     few_functions c.args.p.now.functions (c.programs_have_few_functions.ensures c.requires.0 (program_data c.args.p.now) c.requires.1)

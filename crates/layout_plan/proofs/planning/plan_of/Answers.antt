@@ -1,12 +1,8 @@
 use Rattle.layout_plan.proofs.Fields.{are_own}
-use Rattle.layout_plan.proofs.Next.{few_own}
 use Rattle.layout_plan.proofs.planning.plan_of.Goals as goal
 
-pub outline_of-requires-clause-own : goal.outline_of-requires-clause-own
-outline_of-requires-clause-own c = are_own c.args.records.now _ c.args.number c.get.result.now c.get.ensures c.as_slice-own.ensures
-
-pub outline_of-requires-clause-few : goal.outline_of-requires-clause-few
-outline_of-requires-clause-few c = few_own c.args.records.now _ c.args.number c.get.result.now c.requires.few c.get.ensures c.as_slice-own.ensures
+pub outline_of-requires : goal.outline_of-requires
+outline_of-requires c = are_own c.args.records.now _ c.args.number c.get.result.now c.get.ensures c.as_slice-own.ensures
 
 pub outlines_are_small-requires : goal.outlines_are_small-requires
 outlines_are_small-requires c = are_own c.args.records.now _ c.args.number c.get.result.now c.get.ensures c.as_slice-own.ensures

@@ -10,8 +10,8 @@ use Rattle.rv_isa.specs.Encoding.{IsInRange}
 use Rattle.tac_ir.specs.Code.{code_of}
 use Rattle.rv_image.proofs.parts.image.Goals as goal
 
-pub places_in-requires : goal.places_in-requires
-places_in-requires c = texts_fit_in_all (program_data c.args.p.now) c.args.t.now c.requires.fits
+pub places_in-requires-clause-texts : goal.places_in-requires-clause-texts
+places_in-requires-clause-texts c = texts_fit_in_all (program_data c.args.p.now) c.args.t.now c.requires.fits
 
 pub overflow_cast-texts : goal.overflow_cast-texts
 overflow_cast-texts c =

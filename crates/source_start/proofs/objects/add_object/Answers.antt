@@ -13,8 +13,8 @@ use Rattle.source_start.proofs.objects.add_object.Goals as goal
 
 pub write_all-requires : goal.write_all-requires
 write_all-requires c =
-    let place = c.in_ok-block.ensures.gives.1
+    let place = c.in_ok-block.ensures.1
     ∙ ap (λ (kind : BlockKind). memory_of c.args.store.now ++ record { kind = kind; contents = living (replicate c.row-size.result.size (Byte 0)) } ∷ []) c.object_kind-2.ensures in
     subst (λ (all : List Initial). All (FitsIn (memory_of c.add_zeros-2.new.store) c.in_ok-block.block) all) (sym c.as_slice.ensures)
     (object_fits (program_data c.args.types.now) c.args.o.now (memory_of c.args.store.now) (memory_of c.add_zeros-2.new.store) c.in_ok-block.block c.row-size.result.size _
-    c.in_ok-block.ensures.gives.0 place (ap (λ (row : TypeRow). row.size) c.row-size.ensures.row) c.in-Some.is c.requires)
+    c.in_ok-block.ensures.0 place (ap (λ (row : TypeRow). row.size) c.row-size.ensures.row) c.in-Some.is c.requires.fits)

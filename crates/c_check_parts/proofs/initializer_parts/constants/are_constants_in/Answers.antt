@@ -1,4 +1,4 @@
-use Rattle.std.proofs.Common.{◌≡◌, ◌∙◌, Bool, IfOk, ap, subst}
+use Rattle.std.proofs.Common.{◌≡◌, ◌∙◌, Bool, ap, subst}
 use Rattle.c_annotated.specs.Views.{initializer_of}
 use Rattle.c_erasure.specs.Checking.Initializers.{are_constants}
 use Rattle.c_initial_values.specs.Values.{declared_by}
@@ -9,5 +9,5 @@ pub returns : goal.returns
 returns c =
     let f = c.args.file.now in
     let i = initializer_of c.args.initial.now in
-    subst (λ (b : Bool). IfOk c.are_constants.result (λ are. are ≡ b))
+    subst (λ (b : Bool). c.are_constants.result ≡ b)
     (ap (λ objects. are_constants (declared_by f.records objects) i) c.as_slice.ensures ∙ constants_alike f c.args.scope i) c.are_constants.ensures

@@ -1,4 +1,4 @@
-use Rattle.std.proofs.Common.{Err, ◌≡◌, ◌<◌, ◌≤◌, ◌-◌, ◌^◌, length, ap, ◌∙◌, subst, List}
+use Rattle.std.proofs.Common.{Err, ◌≡◌, ◌≤◌, length, ap, ◌∙◌, subst, List}
 use Rattle.c_types.specs.declared.layout.Layout.{Layout}
 use Rattle.c_types.specs.declared.record.Field.{Field}
 use Rattle.c_types.specs.Laying.{LayoutGives}
@@ -22,13 +22,12 @@ layout_after-requires-clause-objects c =
 
 pub invariant_of-self-2 : goal.invariant_of-self-2
 invariant_of-self-2 c =
-    let room : length c.self.inside.records.items < 2 ^ 32 - 1 = rw c.self.view_is c.requires.room in
     let as_said : c.in-Ok.layout ≡ layout c.self.inside.layouts.items (field_types (record_of c.args.r)) =
     rw (c.deref.ensures.value, c.as_slice.ensures) at c.in-Ok.ensures.0 in
     let small : (layout c.self.inside.layouts.items (field_types (record_of c.args.r))).size ≤ greatest_size =
     rw (c.deref.ensures.value, c.as_slice.ensures) at c.in-Ok.ensures.1 in
     rw (c.push_reserved.ensures.items, c.push_reserved-2.ensures.items, c.reserve.ensures.items, c.reserve-2.ensures.items)
-    (laid-push c.self.inside.records.items c.self.inside.layouts.items c.args.r c.in-Ok.layout c.self.invariant room
+    (laid-push c.self.inside.records.items c.self.inside.layouts.items c.args.r c.in-Ok.layout c.self.invariant
     (rw c.self.view_is c.requires.objects) as_said small)
 
 pub returns-in-Err : goal.returns-in-Err

@@ -1,6 +1,8 @@
-use Rattle.std.proofs.Common.{◌≡◌, ◌∷◌, rules, sym, ap, ◌∙◌}
+use Rattle.std.proofs.Common.{◌≡◌, ◌+◌, ◌-◌, ◌^◌, ◌<◌, [], ◌∷◌, ◌++◌, arith, length, rules, suc, sym, ap, ◌∙◌}
+use Rattle.std.specs.Prelude.{reverse}
 use Rattle.std.proofs.lemmas.Iterator.Adapters.{YieldsList-from_rev_slice}
-use Rattle.std.proofs.lemmas.Iterator.Consumers.{YieldsList-end}
+use Rattle.std.proofs.lemmas.Iterator.Consumers.{YieldsList-end, YieldsList-turn}
+use Rattle.std.proofs.lemmas.List.{length-reverse, length_push}
 use Rattle.c_typed.specs.Trees as T
 use Rattle.c_typed.specs.Typed.{at_of}
 use Rattle.c_typed.specs.Views.{expression_of, path_of}
@@ -12,7 +14,8 @@ use Rattle.lower_tac.specs.Expressions.{convert_step}
 use Rattle.lower_tac.specs.Grounds.{locals_in, part_in, place_in, program_in}
 use Rattle.lower_tac.specs.Parts.{code_of}
 use Rattle.lower_tac.specs.Writing.{code_in}
-use Rattle.lower_tac.proofs.Shown.{address_of_is, branch_is, branch_plain, chosen, converted, decay_is, effect_is, effect_plain, member_is, member_kept, member_placed, told}
+use Rattle.lower_tac.proofs.Counts.{from_back_asks}
+use Rattle.lower_tac.proofs.Shown.{address_of_is, branch_is, branch_plain, chosen, converted, decay_is, effect_is, effect_plain, member_is, member_kept, member_placed, one_more, told}
 use Rattle.lower_tac.proofs.ground.Ground.+lowering.Goals as goal
 
 pub effect-returns-then-drops : goal.effect-returns-then-drops
@@ -95,3 +98,34 @@ arguments-returns t c = λ h.
     let end = YieldsList-end (YieldsList-from_rev_slice c.args.all.now cc) c.loop-e.yielded _ c.loop-e.yielded_by _ _ c.in-None.is c.next.ensures.steps in
     let made = c.loop-e.invariant.1 h in
     (made.0, told (program_in c.args.self.now) (locals_in c.args.self.now) c.loop-e.yielded c.args.all.now c.loop-e.at c.args.d (code_in c.args.w.now) (code_in c.loop-e.w) end.0 c.loop-e.invariant.0 made.1)
+
+pub arguments-temporary_below-at-requires-clause-some : goal.arguments-temporary_below-at-requires-clause-some
+arguments-temporary_below-at-requires-clause-some t c =
+    let turn = YieldsList-turn (YieldsList-from_rev_slice c.args.all.now cc) c.loop-e.yielded _ c.loop-e.yielded_by _ _ _ c.in-Some.is c.next.ensures.steps in
+    let all : length (reverse c.args.all.now) ≡ length c.args.all.now = length-reverse c.args.all.now in omega (arith, c.loop-e.invariant.0, turn.0, all)
+
+pub arguments-temporary_below-at-requires-clause-few : goal.arguments-temporary_below-at-requires-clause-few
+arguments-temporary_below-at-requires-clause-few t c =
+    let turn = YieldsList-turn (YieldsList-from_rev_slice c.args.all.now cc) c.loop-e.yielded _ c.loop-e.yielded_by _ _ _ c.in-Some.is c.next.ensures.steps in
+    let asks = from_back_asks c.args.all.now (length c.loop-e.yielded) c.loop-e.at c.args.d c.in-Some.e.now turn.0 turn.1 c.loop-e.invariant.0 in
+    omega (arith, asks, c.requires)
+
+pub arguments-loop-e-preserved : goal.arguments-loop-e-preserved
+arguments-loop-e-preserved t c =
+    let turn = YieldsList-turn (YieldsList-from_rev_slice c.args.all.now cc) c.loop-e.yielded _ c.loop-e.yielded_by _ _ _ c.in-Some.is c.next.ensures.steps in
+    let all : length (reverse c.args.all.now) ≡ length c.args.all.now = length-reverse c.args.all.now in
+    let n = c.temporary_below-at.result in
+    let one : n ≡ c.loop-e.at - 1 = c.temporary_below-at.ensures.is in
+    let count : n + length (c.loop-e.yielded ++ c.in-Some.e ∷ []) ≡ c.args.d + length c.args.all.now =
+    omega (arith, one, c.loop-e.invariant.0, turn.0, all, length_push c.loop-e.yielded c.in-Some.e) in
+    let place : c.loop-e.at ≡ suc n = omega (arith, one, c.loop-e.invariant.0, turn.0, all) in (
+      count,
+      λ h.
+          let value = c.value.ensures h in
+          let test = c.put_test.ensures value.0 in
+          let made = c.loop-e.invariant.1 test.0 in (
+            made.0,
+            one_more (program_in c.args.self.now) (locals_in c.args.self.now) c.loop-e.yielded c.in-Some.e c.loop-e.at n (code_in c.args.w.now)
+                (code_in c.loop-e.w) (code_in c.put_test.new.w) (code_in c.value.new.w) place made.1 test.1 value.1,
+          ),
+    )

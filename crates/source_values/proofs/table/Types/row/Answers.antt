@@ -17,4 +17,4 @@ returns-in-None-clause-row c =
 
 pub returns-in-None-clause-small : goal.returns-in-None-clause-small
 returns-in-None-clause-small c =
-    rw (c.row_of_void.ensures (program_data c.args.self.now)) (record { size = omega arith; element = omega arith })
+    rw (c.row_of_void.ensures (program_data c.args.self.now)) (record { size = omega arith; element = omega arith; length = omega arith })
