@@ -105,11 +105,14 @@ def check(folder):
 
 def judged(status, text):
     """What became of a wrong body, by the status and the text of its check, and the line that says so."""
+    forged = re.search(r"^(\./)?src/\S+: error\[private-field\].*", text, re.M)
     unread = re.search(r"^(\./)?(src|specs)/\S+: error.*", text, re.M)
     open_goal = re.search(r"^note: src/\S+: it is not .*", text, re.M)
     broken = re.search(r"^(\./)?proofs/\S+: error.*", text, re.M)
     if status == 0:
         return NOT_REFUSED, "the crate is still proved"
+    if forged:
+        return REFUSED, f"before any proof: {forged[0]}"
     if unread:
         return BAD_EDIT, unread[0]
     if status == 1 and re.search(r"^logic=not-proved", text, re.M):
