@@ -6,49 +6,45 @@ ghost use Rattle.c_grammar.specs.Reading.{assignment_after, assignment_in, at, c
 
 use crate::binary::operators;
 use crate::level::Level;
+use crate::means::{Means, Next, Read, all_by};
 use crate::within::expression_inside;
 use c_ast::{At, Expression};
-use c_cursor::{Cursor, Failure, Typenames, deeper_than, level_of};
+use c_cursor::{Cursor, deeper_than, level_of};
 use c_tokens::Punctuator;
 use lay_base::{Boxed, boxed};
-use std::alloc::Global;
 
 /// What stands after `?`.
 #[cycle(expression)]
 #[tactic(auto, unfolding(c_grammar::specs::Reading::chosen_in))]
 fn chosen(
-    alloc: Global,
-    types: &Typenames,
-    inside: u16,
+    by: Means,
     a: Boxed<Expression>,
     d: u32,
     question: At,
     tokens: &mut Cursor,
-) -> Result<(Boxed<Expression>, u32), Failure>
-    ensures { Reads expression_of result tokens.new (chosen_in inside (at types.now inside) (expression_of a) d question tokens.old) }
+) -> Read<Boxed<Expression>>
+    ensures { Reads expression_of result tokens.new (chosen_in by.entry.inside (at by.entry.types.now by.entry.inside) (expression_of a) d question tokens.old) }
 {
-    let (b, e) = expression_inside(alloc, types, inside, Level::Expression, tokens)?;
+    let (b, e) = expression_inside(by, Level::Expression, tokens)?;
     let colon = tokens.expect(Punctuator::Colon)?;
-    let (c, f) = expression_inside(alloc, types, inside, Level::Conditional, tokens)?;
-    let d = deeper_than(inside, d.max(e).max(f), tokens)?;
-    Ok((boxed(alloc, Expression::Cond(a, question, b, colon, c))?, d))
+    let (c, f) = expression_inside(by, Level::Conditional, tokens)?;
+    let d = deeper_than(by.inside, d.max(e).max(f), tokens)?;
+    Ok((
+        boxed(by.alloc, Expression::Cond(a, question, b, colon, c))?,
+        d,
+    ))
 }
 
 /// A conditional expression.
 #[cycle(expression)]
 #[tactic(auto, unfolding(c_grammar::specs::Reading::conditional_in))]
-pub fn conditional(
-    alloc: Global,
-    types: &Typenames,
-    inside: u16,
-    tokens: &mut Cursor,
-) -> Result<(Boxed<Expression>, u32), Failure>
-    ensures { Reads expression_of result tokens.new (conditional_in types.now inside (at types.now inside) tokens.old) }
+pub fn conditional(by: Means, tokens: &mut Cursor) -> Read<Boxed<Expression>>
+    ensures { Reads expression_of result tokens.new (conditional_in by.entry.types.now by.entry.inside (at by.entry.types.now by.entry.inside) tokens.old) }
 {
-    let (a, d) = operators(alloc, types, inside, 3, tokens)?;
+    let (a, d) = operators(by, 3, tokens)?;
     match tokens.accept(Punctuator::Question) {
         Some(question) => {
-            let (x, d) = chosen(alloc, types, inside, a, d, question, tokens)?;
+            let (x, d) = chosen(by, a, d, question, tokens)?;
             Ok((x, d))
         }
         None => Ok((a, d)),
@@ -58,15 +54,8 @@ pub fn conditional(
 /// An assignment operator with what is assigned, if one stands at the front.
 #[cycle(expression)]
 #[tactic(auto, unfolding(c_grammar::specs::Reading::assignment_after))]
-fn assigned(
-    alloc: Global,
-    types: &Typenames,
-    inside: u16,
-    a: Boxed<Expression>,
-    d: u32,
-    tokens: &mut Cursor,
-) -> Result<(Boxed<Expression>, u32), Failure>
-    ensures { Reads expression_of result tokens.new (assignment_after inside (at types.now inside) (expression_of a) d tokens.old) }
+fn assigned(by: Means, a: Boxed<Expression>, d: u32, tokens: &mut Cursor) -> Read<Boxed<Expression>>
+    ensures { Reads expression_of result tokens.new (assignment_after by.entry.inside (at by.entry.types.now by.entry.inside) (expression_of a) d tokens.old) }
 {
     match tokens.assign_at() {
         Some(op) => {
@@ -74,9 +63,9 @@ fn assigned(
                 return Err(tokens.stop());
             }
             let place = tokens.advance();
-            let (b, e) = expression_inside(alloc, types, inside, Level::Assignment, tokens)?;
-            let d = deeper_than(inside, d.max(e), tokens)?;
-            Ok((boxed(alloc, Expression::Assign(a, op, place, b))?, d))
+            let (b, e) = expression_inside(by, Level::Assignment, tokens)?;
+            let d = deeper_than(by.inside, d.max(e), tokens)?;
+            Ok((boxed(by.alloc, Expression::Assign(a, op, place, b))?, d))
         }
         None => Ok((a, d)),
     }
@@ -85,37 +74,25 @@ fn assigned(
 /// An assignment expression.
 #[cycle(expression)]
 #[tactic(auto, unfolding(c_grammar::specs::Reading::assignment_in))]
-pub fn assignment(
-    alloc: Global,
-    types: &Typenames,
-    inside: u16,
-    tokens: &mut Cursor,
-) -> Result<(Boxed<Expression>, u32), Failure>
-    ensures { Reads expression_of result tokens.new (assignment_in types.now inside (at types.now inside) tokens.old) }
+pub fn assignment(by: Means, tokens: &mut Cursor) -> Read<Boxed<Expression>>
+    ensures { Reads expression_of result tokens.new (assignment_in by.entry.types.now by.entry.inside (at by.entry.types.now by.entry.inside) tokens.old) }
 {
-    let (a, d) = conditional(alloc, types, inside, tokens)?;
-    let (x, d) = assigned(alloc, types, inside, a, d, tokens)?;
+    let (a, d) = conditional(by, tokens)?;
+    let (x, d) = assigned(by, a, d, tokens)?;
     Ok((x, d))
 }
 
 /// One comma more with its second operand, if one stands at the front.
 #[cycle(expression)]
 #[tactic(auto, unfolding(c_grammar::specs::Reading::comma_step))]
-fn comma(
-    alloc: Global,
-    types: &Typenames,
-    inside: u16,
-    x: Boxed<Expression>,
-    d: u32,
-    tokens: &mut Cursor,
-) -> Result<(Boxed<Expression>, u32, bool), Failure>
-    ensures { Steps expression_of result tokens.new (comma_step inside (at types.now inside) (expression_of x) d tokens.old) }
+fn comma(by: Means, x: Boxed<Expression>, d: u32, tokens: &mut Cursor) -> Next<Boxed<Expression>>
+    ensures { Steps expression_of result tokens.new (comma_step by.entry.inside (at by.entry.types.now by.entry.inside) (expression_of x) d tokens.old) }
 {
     match tokens.accept(Punctuator::Comma) {
         Some(place) => {
-            let (b, e) = expression_inside(alloc, types, inside, Level::Assignment, tokens)?;
-            let d = deeper_than(inside, d.max(e), tokens)?;
-            Ok((boxed(alloc, Expression::Comma(x, place, b))?, d, true))
+            let (b, e) = expression_inside(by, Level::Assignment, tokens)?;
+            let d = deeper_than(by.inside, d.max(e), tokens)?;
+            Ok((boxed(by.alloc, Expression::Comma(x, place, b))?, d, true))
         }
         None => Ok((x, d, false)),
     }
@@ -124,24 +101,8 @@ fn comma(
 /// An expression.
 #[cycle(expression)]
 #[tactic(auto, using(c_grammar::proofs::Rounds::rounds), unfolding(c_grammar::specs::Reading::expression_in))]
-pub fn expression(
-    alloc: Global,
-    types: &Typenames,
-    inside: u16,
-    tokens: &mut Cursor,
-) -> Result<(Boxed<Expression>, u32), Failure>
-    ensures { Reads expression_of result tokens.new (expression_in types.now inside (at types.now inside) tokens.old) }
+pub fn expression(by: Means, tokens: &mut Cursor) -> Read<Boxed<Expression>>
+    ensures { Reads expression_of result tokens.new (expression_in by.entry.types.now by.entry.inside (at by.entry.types.now by.entry.inside) tokens.old) }
 {
-    let (mut x, mut d) = assignment(alloc, types, inside, tokens)?;
-    let mut rounds = inside as u64 + 1;
-    'more: while rounds > 0 {
-        let (y, e, on) = comma(alloc, types, inside, x, d, tokens)?;
-        x = y;
-        d = e;
-        rounds -= 1;
-        if !on {
-            return Ok((x, d));
-        }
-    }
-    Err(tokens.stop())
+    all_by!(comma(by), tokens; assignment(by, tokens)?, by.inside as u64 + 1)
 }

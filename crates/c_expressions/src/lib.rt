@@ -14,6 +14,7 @@ mod declarator_names;
 mod declarators;
 mod enumerations;
 mod level;
+mod means;
 mod postfix;
 mod primary;
 mod specifiers;
@@ -24,4 +25,5 @@ mod within;
 
 pub use declarator_names::has_name;
 pub use level::Level;
+pub use means::{Means, Next, Read};
 pub use within::{declarator_inside, expression_inside, specifiers_inside};

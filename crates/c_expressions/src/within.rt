@@ -13,98 +13,95 @@ use crate::binary::operators;
 use crate::declarators::declarator;
 use crate::enumerations::enumerator;
 use crate::level::Level;
+use crate::means::{Means, Read};
 use crate::specifiers::specifiers;
 use crate::structures::member_declaration;
 use crate::unary::{operand, unary_expression};
 use c_ast::{Declarator, EnumeratorValue, Expression, MemberDeclaration, Specifier, Spelling};
-use c_cursor::{Cursor, Failure, Typenames};
+use c_cursor::Cursor;
 use lay_base::{Boxed, List};
-use std::alloc::Global;
 
 /// An expression of that level.
 #[cycle(expression)]
-pub fn expression_inside(
-    alloc: Global,
-    types: &Typenames,
-    inside: u16,
-    level: Level,
-    tokens: &mut Cursor,
-) -> Result<(Boxed<Expression>, u32), Failure>
-    ensures { Reads expression_of result tokens.new (read level (at types.now inside) tokens.old) }
+pub fn expression_inside(by: Means, level: Level, tokens: &mut Cursor) -> Read<Boxed<Expression>>
+    ensures { Reads expression_of result tokens.new (read level (at by.entry.types.now by.entry.inside) tokens.old) }
 {
-    if inside == 0 {
+    if by.inside == 0 {
         return Err(tokens.stop());
     }
+    let by = Means {
+        inside: by.inside - 1,
+        ..by
+    };
     match level {
-        Level::Expression => expression(alloc, types, inside - 1, tokens),
-        Level::Assignment => assignment(alloc, types, inside - 1, tokens),
-        Level::Conditional => conditional(alloc, types, inside - 1, tokens),
-        Level::Operators(least) => operators(alloc, types, inside - 1, least, tokens),
-        Level::Operand => operand(alloc, types, inside - 1, tokens),
-        Level::Unary => unary_expression(alloc, types, inside - 1, tokens),
+        Level::Expression => expression(by, tokens),
+        Level::Assignment => assignment(by, tokens),
+        Level::Conditional => conditional(by, tokens),
+        Level::Operators(least) => operators(by, least, tokens),
+        Level::Operand => operand(by, tokens),
+        Level::Unary => unary_expression(by, tokens),
     }
 }
 
 /// One specifier or more.
 #[cycle(expression)]
-pub fn specifiers_inside(
-    alloc: Global,
-    types: &Typenames,
-    inside: u16,
-    tokens: &mut Cursor,
-) -> Result<(List<Specifier>, u32), Failure>
-    ensures { Reads (λ all. specifiers_of (map specifier_of all)) result tokens.new ((at types.now inside).specifiers tokens.old) }
+pub fn specifiers_inside(by: Means, tokens: &mut Cursor) -> Read<List<Specifier>>
+    ensures { Reads (λ all. specifiers_of (map specifier_of all)) result tokens.new ((at by.entry.types.now by.entry.inside).specifiers tokens.old) }
 {
-    if inside == 0 {
+    if by.inside == 0 {
         return Err(tokens.stop());
     }
-    specifiers(alloc, types, inside - 1, tokens)
+    let by = Means {
+        inside: by.inside - 1,
+        ..by
+    };
+    specifiers(by, tokens)
 }
 
 /// A member declaration.
 #[cycle(expression)]
-pub fn member_declaration_inside(
-    alloc: Global,
-    types: &Typenames,
-    inside: u16,
-    tokens: &mut Cursor,
-) -> Result<(MemberDeclaration, u32), Failure>
-    ensures { Reads member_declaration_of result tokens.new ((at types.now inside).member_declaration tokens.old) }
+pub fn member_declaration_inside(by: Means, tokens: &mut Cursor) -> Read<MemberDeclaration>
+    ensures { Reads member_declaration_of result tokens.new ((at by.entry.types.now by.entry.inside).member_declaration tokens.old) }
 {
-    if inside == 0 {
+    if by.inside == 0 {
         return Err(tokens.stop());
     }
-    member_declaration(alloc, types, inside - 1, tokens)
+    let by = Means {
+        inside: by.inside - 1,
+        ..by
+    };
+    member_declaration(by, tokens)
 }
 
 /// An enumerator.
 #[cycle(expression)]
 pub fn enumerator_inside(
-    alloc: Global,
-    types: &Typenames,
-    inside: u16,
+    by: Means,
     tokens: &mut Cursor,
-) -> Result<((Spelling, Option<EnumeratorValue>), u32), Failure>
-    ensures { Reads (λ x. (x.0, enumerator_value_of (option_map one_value_of x.1))) result tokens.new ((at types.now inside).enumerator tokens.old) }
+) -> Read<(Spelling, Option<EnumeratorValue>)>
+    ensures { Reads (λ x. (x.0, enumerator_value_of (option_map one_value_of x.1))) result tokens.new ((at by.entry.types.now by.entry.inside).enumerator tokens.old) }
 {
-    if inside == 0 {
+    if by.inside == 0 {
         return Err(tokens.stop());
     }
-    enumerator(alloc, types, inside - 1, tokens)
+    let by = Means {
+        inside: by.inside - 1,
+        ..by
+    };
+    enumerator(by, tokens)
 }
 
 /// A declarator or nothing.
 #[cycle(expression)]
-pub fn declarator_inside(
-    alloc: Global,
-    types: &Typenames,
-    inside: u16,
-    tokens: &mut Cursor,
-) -> Result<(Option<Boxed<Declarator>>, u32), Failure>
-    ensures { Reads (λ d. declarator_if_any (option_map declarator_of d)) result tokens.new ((at types.now inside).declarator tokens.old) }
+pub fn declarator_inside(by: Means, tokens: &mut Cursor) -> Read<Option<Boxed<Declarator>>>
+    ensures { Reads (λ d. declarator_if_any (option_map declarator_of d)) result tokens.new ((at by.entry.types.now by.entry.inside).declarator tokens.old) }
 {
-    if inside == 0 {
+    if by.inside == 0 {
         return Ok((None, 0));
     }
-    declarator(alloc, types, inside - 1, tokens)
+    let by = Means {
+        inside: by.inside - 1,
+        ..by
+    };
+    declarator(by, tokens)
 }

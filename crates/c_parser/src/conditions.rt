@@ -6,10 +6,9 @@ ghost use Rattle.c_cursor.specs.Gives.{Reads};
 ghost use Rattle.c_grammar.specs.Reading.{at, is_punctuator};
 ghost use Rattle.c_grammar.specs.StatementReading.{condition_in, expression_if_any};
 
-use crate::means::{Means, Read};
 use c_ast::{At, Expression};
 use c_cursor::Cursor;
-use c_expressions::{Level, expression_inside};
+use c_expressions::{Level, Means, Read, expression_inside};
 use c_tokens::Punctuator;
 use lay_base::Boxed;
 
@@ -25,7 +24,7 @@ pub fn expression_before(
     if tokens.peek(end) {
         return Ok((None, 0));
     }
-    let (value, d) = expression_inside(by.alloc, by.types, by.inside, Level::Expression, tokens)?;
+    let (value, d) = expression_inside(by, Level::Expression, tokens)?;
     Ok((Some(value), d))
 }
 
@@ -35,7 +34,7 @@ pub fn condition(by: Means, tokens: &mut Cursor) -> Read<(At, Boxed<Expression>,
     ensures { Reads (λ x. (x.0, expression_of x.1, x.2)) result tokens.new (condition_in ((at by.entry.types.now by.entry.inside).expression) tokens.old) }
 {
     let left = tokens.expect(Punctuator::Open)?;
-    let (value, d) = expression_inside(by.alloc, by.types, by.inside, Level::Expression, tokens)?;
+    let (value, d) = expression_inside(by, Level::Expression, tokens)?;
     let right = tokens.expect(Punctuator::Close)?;
     Ok(((left, value, right), d))
 }

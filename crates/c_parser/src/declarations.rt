@@ -8,10 +8,10 @@ ghost use Rattle.c_grammar.specs.StatementReading.{declaration_in, declarators_a
 ghost use Rattle.c_grammar.specs.StatementReading.{more_init_declarators};
 
 use crate::declarators::{named, valued};
-use crate::means::{Means, Next, Read, all_by};
+use crate::loops::all_by;
 use c_ast::{Declaration, Declarator, InitDeclarator};
 use c_cursor::Cursor;
-use c_expressions::specifiers_inside;
+use c_expressions::{Means, Next, Read, specifiers_inside};
 use c_tokens::Punctuator;
 use lay_base::{Boxed, List, NoMemory, add};
 
@@ -98,7 +98,7 @@ fn declarators(by: Means, full: bool, tokens: &mut Cursor) -> Read<List<InitDecl
 pub fn declaration(by: Means, full: bool, tokens: &mut Cursor) -> Read<Declaration>
     ensures { Reads declaration_of result tokens.new (declaration_in full by.entry.types.now by.entry.inside tokens.old) }
 {
-    let (specifiers, d) = specifiers_inside(by.alloc, by.types, by.inside, tokens)?;
+    let (specifiers, d) = specifiers_inside(by, tokens)?;
     let (declarators, e) = declarators(by, full, tokens)?;
     let semicolon = tokens.expect(Punctuator::Semicolon)?;
     let whole = Declaration {

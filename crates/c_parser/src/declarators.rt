@@ -6,10 +6,9 @@ ghost use Rattle.c_grammar.specs.Reading.{at};
 ghost use Rattle.c_grammar.specs.StatementReading.{initial_at, named_in, valued_in};
 
 use crate::initializers::initializer_inside;
-use crate::means::{Means, Read};
 use c_ast::{At, Declarator, InitDeclarator, InitialValue};
 use c_cursor::Cursor;
-use c_expressions::{declarator_inside, has_name};
+use c_expressions::{Means, Read, declarator_inside, has_name};
 use c_tokens::Punctuator;
 use lay_base::Boxed;
 
@@ -18,7 +17,7 @@ use lay_base::Boxed;
 pub fn named(by: Means, tokens: &mut Cursor) -> Read<Boxed<Declarator>>
     ensures { Reads declarator_of result tokens.new (named_in ((at by.entry.types.now by.entry.inside).declarator) tokens.old) }
 {
-    let (declarator, d) = declarator_inside(by.alloc, by.types, by.inside, tokens)?;
+    let (declarator, d) = declarator_inside(by, tokens)?;
     match declarator {
         Some(declarator) if has_name(declarator.get()) => Ok((declarator, d)),
         _ => Err(tokens.stop()),

@@ -6,10 +6,10 @@ ghost use Rattle.c_cursor.specs.Gives.{Gives, Reads, Steps};
 ghost use Rattle.c_grammar.specs.Reading.{at, chain};
 ghost use Rattle.c_grammar.specs.StatementReading.{braces_in, initial_at, initial_in, initial_step};
 
-use crate::means::{Means, Next, Read, all_by};
+use crate::loops::all_by;
 use c_ast::{Argument, At, Expression};
 use c_cursor::{Cursor, deeper_than};
-use c_expressions::{Level, expression_inside};
+use c_expressions::{Level, Means, Next, Read, expression_inside};
 use c_tokens::Punctuator;
 use lay_base::{Boxed, List, add, boxed};
 
@@ -70,13 +70,7 @@ fn initializer(by: Means, tokens: &mut Cursor) -> Read<Boxed<Expression>>
     match tokens.accept(Punctuator::OpenBrace) {
         Some(left) => braces(by, left, tokens),
         None => {
-            let (value, d) = expression_inside(
-                by.alloc,
-                by.types,
-                by.inside,
-                Level::Assignment,
-                tokens,
-            )?;
+            let (value, d) = expression_inside(by, Level::Assignment, tokens)?;
             let d = deeper_than(by.inside, d, tokens)?;
             Ok((value, d))
         }

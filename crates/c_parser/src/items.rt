@@ -7,11 +7,10 @@ ghost use Rattle.c_grammar.specs.StatementReading.{body_in, item_after, item_in,
 
 use crate::declarations::declarators_after;
 use crate::declarators::named;
-use crate::means::{Means, Read};
 use crate::statements::block;
 use c_ast::{At, Declaration, Declarator, Function, Item, Specifier};
 use c_cursor::{Cursor, deeper_than};
-use c_expressions::specifiers_inside;
+use c_expressions::{Means, Read, specifiers_inside};
 use c_tokens::Punctuator;
 use lay_base::{Boxed, List};
 
@@ -87,7 +86,7 @@ fn declared(by: Means, specifiers: List<Specifier>, d: u32, tokens: &mut Cursor)
 pub fn item(by: Means, tokens: &mut Cursor) -> Read<Item>
     ensures { Reads item_of result tokens.new (item_in by.entry.types.now by.entry.inside tokens.old) }
 {
-    let (specifiers, d) = specifiers_inside(by.alloc, by.types, by.inside, tokens)?;
+    let (specifiers, d) = specifiers_inside(by, tokens)?;
     match tokens.accept(Punctuator::Semicolon) {
         Some(semicolon) => {
             let d = deeper_than(by.inside, d, tokens)?;

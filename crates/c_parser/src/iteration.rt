@@ -6,10 +6,10 @@ ghost use Rattle.c_grammar.specs.StatementReading.{below_at, do_in, for_in, for_
 
 use crate::conditions::{condition, expression_before};
 use crate::declarations::declaration;
-use crate::means::{Means, Read};
 use crate::statements::statement_inside;
 use c_ast::{At, ForStart, Statement};
 use c_cursor::{Cursor, deeper_than};
+use c_expressions::{Means, Read};
 use c_tokens::Punctuator;
 use lay_base::{Keyword, boxed};
 

@@ -16,7 +16,7 @@ mod initializers;
 mod items;
 mod iteration;
 mod laws;
-mod means;
+mod loops;
 mod parsing;
 mod selection;
 mod statements;

@@ -12,10 +12,10 @@ ghost use Rattle.c_parser.specs.Parsing.{IsPlaceIn, ParseGives};
 
 use crate::faults::ParseFault;
 use crate::items::item;
-use crate::means::Means;
 use crate::typenames::add_types;
 use c_ast::{Item, Tree};
 use c_cursor::{Cursor, Failure, Typenames};
+use c_expressions::Means;
 use c_lexer::texts_have_one_reading;
 use c_tokens::{Token, TokenKind, Tokens};
 use lay_base::{Keyword, List, NoMemory, Place, add};

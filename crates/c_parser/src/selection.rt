@@ -5,10 +5,10 @@ ghost use Rattle.c_cursor.specs.Gives.{Reads};
 ghost use Rattle.c_grammar.specs.StatementReading.{below_at, if_in, statement_at};
 
 use crate::conditions::condition;
-use crate::means::{Means, Read};
 use crate::statements::statement_inside;
 use c_ast::{At, Statement};
 use c_cursor::{Cursor, deeper_than};
+use c_expressions::{Means, Read};
 use lay_base::{Keyword, boxed};
 
 /// What stands after `if`.

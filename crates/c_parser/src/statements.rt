@@ -10,11 +10,12 @@ ghost use Rattle.c_grammar.specs.StatementReading.{return_in, statement_at, stat
 use crate::conditions::expression_before;
 use crate::declarations::declaration;
 use crate::iteration::{do_loop, for_loop, while_loop};
-use crate::means::{Means, Next, Read, all_by};
+use crate::loops::all_by;
 use crate::selection::selection;
 use crate::switches::switch;
 use c_ast::{At, BlockItem, Statement};
 use c_cursor::{Cursor, deeper_than};
+use c_expressions::{Means, Next, Read};
 use c_tokens::{Punctuator, TokenKind};
 use lay_base::{Keyword, List, add};
 

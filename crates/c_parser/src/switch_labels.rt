@@ -6,10 +6,10 @@ ghost use Rattle.c_cursor.specs.Gives.{Gives, Reads, Steps};
 ghost use Rattle.c_grammar.specs.Reading.{chain};
 ghost use Rattle.c_grammar.specs.StatementReading.{below_at, label_step, statement_at};
 
-use crate::means::{Means, Next, Read, all_by};
+use crate::loops::all_by;
 use c_ast::Label;
 use c_cursor::Cursor;
-use c_expressions::{Level, expression_inside};
+use c_expressions::{Level, Means, Next, Read, expression_inside};
 use c_tokens::{Punctuator, TokenKind};
 use lay_base::{Keyword, List, add};
 
@@ -23,13 +23,7 @@ fn next_label(by: Means, all: List<Label>, d: u32, tokens: &mut Cursor) -> Next<
     match tokens.front() {
         Some(TokenKind::Keyword(Keyword::Case)) => {
             let place = tokens.advance();
-            let (value, e) = expression_inside(
-                by.alloc,
-                by.types,
-                by.inside,
-                Level::Conditional,
-                tokens,
-            )?;
+            let (value, e) = expression_inside(by, Level::Conditional, tokens)?;
             let colon = tokens.expect(Punctuator::Colon)?;
             add(&mut all, Label::Case(place, value.into_inner(), colon))?;
             Ok((all, d.max(e), true))

@@ -8,11 +8,12 @@ ghost use Rattle.c_grammar.specs.StatementReading.{below_at, statement_at, switc
 
 use crate::conditions::condition;
 use crate::declarations::declaration;
-use crate::means::{Means, Next, Read, all_by};
+use crate::loops::all_by;
 use crate::statements::statement_inside;
 use crate::switch_labels::labels;
 use c_ast::{At, Statement, SwitchItem};
 use c_cursor::{Cursor, deeper_than};
+use c_expressions::{Means, Next, Read};
 use c_tokens::Punctuator;
 use lay_base::{List, add};
 
