@@ -42,7 +42,7 @@ pub fn check(
     let tags = tags_of(alloc, tokens.list.as_slice(), &tree, file)?;
     drop(tokens);
     match annotated(alloc, number, tags, tree) {
-        Ok((found, nodes)) => Ok(unit_of(alloc, found, nodes)?),
+        Ok((found, nodes)) => Ok(unit_of(found, nodes)?),
         Err(fault) => Err(fault_in(number, fault)),
     }
 }

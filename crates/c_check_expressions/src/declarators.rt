@@ -27,13 +27,11 @@ use c_nodes::{Derivation, Fault, Storage, storage_of};
 use c_scopes::{FileScope, Scope};
 use c_types::Ty;
 use lay_base::{Boxed, List, Rule};
-use std::alloc::Global;
 
 /// The steps of a declarator (C99 6.7.5), read from left to right. The one that is taken first stands last.
 #[cycle(finding)]
 #[tactic(auto, unfolding(c_erasure::specs::Checking::Finding::derivations))]
 pub fn derivations(
-    alloc: Global,
     d: &Declarator,
     file: &mut FileScope,
     scope: Scope,
@@ -41,22 +39,22 @@ pub fn derivations(
     ensures { Finds derivations_of result (derivations (declarator_of d.now) (scope_of file.old scope.entry)) file.new }
 {
     match d {
-        Declarator::Identifier(_) => Ok(List::new(alloc)),
-        Declarator::Enclosed(_, d, _) => derivations(alloc, d.get(), file, scope),
-        Declarator::Pointer(at, _, d) => match derivations_if_any(alloc, d, file, scope) {
+        Declarator::Identifier(_) => Ok(List::new(file.alloc)),
+        Declarator::Enclosed(_, d, _) => derivations(d.get(), file, scope),
+        Declarator::Pointer(at, _, d) => match derivations_if_any(d, file, scope) {
             Err(fault) => Err(fault),
             Ok(steps) => with_step(steps, Derivation::Pointer(*at)),
         },
         Declarator::Array(d, left, number, _) => {
             let count = file.tags.ended(*left);
-            match derivations_if_any(alloc, d, file, scope) {
+            match derivations_if_any(d, file, scope) {
                 Err(fault) => Err(fault),
-                Ok(steps) => length_step(alloc, number, file, scope, count, *left, steps),
+                Ok(steps) => length_step(number, file, scope, count, *left, steps),
             }
         }
-        Declarator::Function(d, left, all, _) => match derivations_if_any(alloc, d, file, scope) {
+        Declarator::Function(d, left, all, _) => match derivations_if_any(d, file, scope) {
             Err(fault) => Err(fault),
-            Ok(steps) => match parameter_list(alloc, all, file, scope) {
+            Ok(steps) => match parameter_list(all, file, scope) {
                 Err(fault) => Err(fault),
                 Ok(types) => with_step(steps, Derivation::Function(*left, types)),
             },
@@ -68,7 +66,6 @@ pub fn derivations(
 #[cycle(finding)]
 #[tactic(auto, unfolding(c_erasure::specs::Checking::Finding::derivations))]
 pub fn derivations_if_any(
-    alloc: Global,
     d: &Option<Boxed<Declarator>>,
     file: &mut FileScope,
     scope: Scope,
@@ -77,8 +74,8 @@ pub fn derivations_if_any(
         (derivations (declarator_if_any (option_map declarator_of d.now)) (scope_of file.old scope.entry)) file.new }
 {
     match d {
-        None => Ok(List::new(alloc)),
-        Some(d) => derivations(alloc, d.get(), file, scope),
+        None => Ok(List::new(file.alloc)),
+        Some(d) => derivations(d.get(), file, scope),
     }
 }
 
@@ -86,7 +83,6 @@ pub fn derivations_if_any(
 #[cycle(finding)]
 #[tactic(auto, unfolding(c_erasure::specs::Checking::Finding::array_step))]
 fn length_step(
-    alloc: Global,
     number: &Option<Boxed<Expression>>,
     file: &mut FileScope,
     scope: Scope,
@@ -99,7 +95,7 @@ fn length_step(
 {
     match number {
         None => with_step(steps, Derivation::OpenArray(count, left)),
-        Some(a) => match constant(alloc, a.get(), file, scope) {
+        Some(a) => match constant(a.get(), file, scope) {
             Err(fault) => Err(fault),
             Ok(c) => array_step(file, first_of_expression(a.get()), count, left, c, steps),
         },
@@ -109,36 +105,26 @@ fn length_step(
 /// The types of the parameters of a declarator, in a scope of their own (C99 6.2.1, 6.7.5.3).
 #[cycle(finding)]
 #[tactic(auto, unfolding(c_erasure::specs::Checking::Finding::parameter_list))]
-fn parameter_list(
-    alloc: Global,
-    all: &Parameters,
-    file: &mut FileScope,
-    scope: Scope,
-) -> Result<List<Ty>, Fault>
+fn parameter_list(all: &Parameters, file: &mut FileScope, scope: Scope) -> Result<List<Ty>, Fault>
     ensures { Finds types_of result (parameter_list (parameter_list_of all.now) (inside (scope_of file.old scope.entry))) file.new }
 {
     match all {
-        Parameters::Void(_) => Ok(List::new(alloc)),
-        Parameters::Listed(all) => parameters(alloc, all, file, scope),
+        Parameters::Void(_) => Ok(List::new(file.alloc)),
+        Parameters::Listed(all) => parameters(all, file, scope),
     }
 }
 
 /// The types of parameters; the name of each is known in those after it.
 #[cycle(finding)]
-fn parameters(
-    alloc: Global,
-    all: &List<Parameter>,
-    file: &mut FileScope,
-    scope: Scope,
-) -> Result<List<Ty>, Fault>
+fn parameters(all: &List<Parameter>, file: &mut FileScope, scope: Scope) -> Result<List<Ty>, Fault>
     ensures { Finds types_of result (parameters (parameters_of (map parameter_of all.now)) (inside (scope_of file.old scope.entry))) file.new }
 {
-    let mut done = List::new(alloc);
-    let mut block = new_block(alloc, scope);
+    let mut done = List::new(file.alloc);
+    let mut block = new_block(file.alloc, scope);
     for p in all.as_slice() {
-        match parameter(alloc, p, file, within(&block, scope)) {
+        match parameter(p, file, within(&block, scope)) {
             Err(fault) => return Err(fault),
-            Ok(t) => match add_parameter(alloc, &mut block, &mut done, p, t) {
+            Ok(t) => match add_parameter(file.alloc, &mut block, &mut done, p, t) {
                 Ok(()) => {}
                 Err(want) => return Err(Fault::Memory(want)),
             },
@@ -149,19 +135,17 @@ fn parameters(
 
 /// The type of a parameter.
 #[cycle(finding)]
-fn parameter(alloc: Global, p: &Parameter, file: &mut FileScope, scope: Scope) -> Result<Ty, Fault>
+fn parameter(p: &Parameter, file: &mut FileScope, scope: Scope) -> Result<Ty, Fault>
     ensures { Finds type_of result (parameter_found (parameter_of p.now).1 (parameter_of p.now).2 (scope_of file.old scope.entry)) file.new }
 {
     let at = first_if_any(&p.declarator, first_of_specifiers(p.specifiers.as_slice()));
-    match parameter_base(alloc, &p.specifiers, file, scope) {
+    match parameter_base(&p.specifiers, file, scope) {
         Err(fault) => Err(fault),
         Ok(t) => {
             let before = mentions_in(file);
-            match derivations_if_any(alloc, &p.declarator, file, scope) {
+            match derivations_if_any(&p.declarator, file, scope) {
                 Err(fault) => Err(fault),
-                Ok(steps) => {
-                    parameter_type(alloc, file, scope, before, at, &p.declarator, steps, t)
-                }
+                Ok(steps) => { parameter_type(file, scope, before, at, &p.declarator, steps, t) }
             }
         }
     }
@@ -170,7 +154,6 @@ fn parameter(alloc: Global, p: &Parameter, file: &mut FileScope, scope: Scope) -
 /// The type that the specifiers of a parameter name; `register` alone may stand among them.
 #[cycle(finding)]
 fn parameter_base(
-    alloc: Global,
     specifiers: &List<Specifier>,
     file: &mut FileScope,
     scope: Scope,
@@ -178,7 +161,7 @@ fn parameter_base(
     ensures { Finds type_of result (base_of_parameter (specifiers_of (map specifier_of specifiers.now)) (scope_of file.old scope.entry)) file.new }
 {
     match storage_of(specifiers.as_slice()) {
-        Storage::None | Storage::Register => boxed_base(alloc, specifiers, file, scope),
+        Storage::None | Storage::Register => boxed_base(specifiers, file, scope),
         _ => Err(Fault::IllTyped(Rule::Specifiers, first_of_specifiers(specifiers.as_slice()))),
     }
 }

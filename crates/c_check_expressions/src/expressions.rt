@@ -18,237 +18,171 @@ ghost use Rattle.c_check_expressions.specs.Parts.{argument_found, call_found};
 
 use crate::operators::unary_thing;
 use crate::places::{first_and_rest, first_of_argument};
-use crate::start::{Start, begins_at};
+use crate::start::begins_at;
 use crate::types::type_name;
 use c_annotated::{Expression as Typed, Thing};
 use c_ast::{Argument, AssignOp, Expression, first_of_expression};
 use c_declaring::{character, literal, mentions_in, name, number, size_of_thing, size_of_type};
 use c_nodes::{
-    Fault, Integer, Subscripted, Target, argument as converted_argument, array_of, arrow, assigned,
-    binary, call as called, cast, chosen, comma, constant as constant_value, copied, dot, element,
-    index as indexed, kind_of, signature_of, step, step_of, target_in, tested, update_of, updated,
-    worth,
+    Fault, Integer, Start, Subscripted, Target, Value, argument as converted_argument, array_of,
+    arrow, assigned, binary, call as called, cast, chosen, comma, constant as constant_value,
+    copied, dot, element, index as indexed, kind_of, signature_of, step, step_of, target_in,
+    tested, update_of, updated, worth,
 };
 use c_scopes::{FileScope, Scope, for_value, measured, place_in};
 use c_types::Ty;
-use lay_base::{Boxed, List, Rule, add};
-use std::alloc::Global;
+use lay_base::{List, Rule, add};
 
 /// What an expression designates (C99 6.5), in the file up to there, which gets what it declares.
 #[cycle(finding)]
 #[tactic(auto, unfolding(c_erasure::specs::Checking::Finding::find))]
-pub fn find(
-    alloc: Global,
-    e: &Expression,
-    file: &mut FileScope,
-    scope: Scope,
-) -> Result<Thing, Fault>
+pub fn find(e: &Expression, file: &mut FileScope, scope: Scope) -> Result<Thing, Fault>
     ensures { Finds thing_of result (find (tree_of e.now) (scope_of file.old scope.entry)) file.new }
 {
     // These are most expressions. The function for all others needs much more room on the stack, which takes time to make.
     match e {
-        Expression::Name(x) => name(alloc, file, scope, x),
-        Expression::Number(x, n, kind) => number(alloc, file, scope, x.from, *n, *kind),
-        Expression::Paren(_, a, _) => find(alloc, a.get(), file, scope),
-        _ => find_any(alloc, e, file, scope),
+        Expression::Name(x) => name(file, scope, x),
+        Expression::Number(x, n, kind) => number(file, scope, x.from, *n, *kind),
+        Expression::Paren(_, a, _) => find(a.get(), file, scope),
+        _ => find_any(e, file, scope),
     }
 }
 
 /// What an expression of any kind designates.
 #[cycle(finding)]
 #[tactic(auto, unfolding(c_erasure::specs::Checking::Finding::find))]
-fn find_any(
-    alloc: Global,
-    e: &Expression,
-    file: &mut FileScope,
-    scope: Scope,
-) -> Result<Thing, Fault>
+fn find_any(e: &Expression, file: &mut FileScope, scope: Scope) -> Result<Thing, Fault>
     ensures { Finds thing_of result (find (tree_of e.now) (scope_of file.old scope.entry)) file.new }
 {
     match e {
-        Expression::Name(x) => name(alloc, file, scope, x),
-        Expression::Number(x, n, kind) => number(alloc, file, scope, x.from, *n, *kind),
-        Expression::Character(x, n) => character(alloc, file, scope, x.from, *n),
+        Expression::Name(x) => name(file, scope, x),
+        Expression::Number(x, n, kind) => number(file, scope, x.from, *n, *kind),
+        Expression::Character(x, n) => character(file, scope, x.from, *n),
         Expression::Texts(all) => {
             let place = place_in(file, scope, first_of_expression(e));
-            literal(alloc, file, scope, place, all.as_slice())
+            literal(file, scope, place, all.as_slice())
         }
-        Expression::Paren(_, a, _) => find(alloc, a.get(), file, scope),
+        Expression::Paren(_, a, _) => find(a.get(), file, scope),
         Expression::Index(a, left, b, _) => {
             let begin = begins_at(file, scope, first_of_expression(a.get()));
-            match find(alloc, a.get(), file, scope) {
+            match find(a.get(), file, scope) {
                 Err(fault) => Err(fault),
-                Ok(thing) => index(alloc, b.get(), file, scope, begin, *left, thing),
+                Ok(thing) => index(b.get(), file, scope, begin, *left, thing),
             }
         }
         Expression::Call(g, _, all, right) => {
             let begin = begins_at(file, scope, first_of_expression(g.get()));
-            match find(alloc, g.get(), file, scope) {
+            match find(g.get(), file, scope) {
                 Err(fault) => Err(fault),
-                Ok(thing) => call(alloc, all, file, scope, begin, *right, thing),
+                Ok(thing) => call(all, file, scope, begin, *right, thing),
             }
         }
         Expression::Dot(a, at, x) => {
             let place = place_in(file, scope, first_of_expression(a.get()));
             let count = file.tags.ended(*at);
-            match find(alloc, a.get(), file, scope) {
+            match find(a.get(), file, scope) {
                 Err(fault) => Err(fault),
-                Ok(thing) => {
-                    dot(
-                        alloc,
-                        &file.records,
-                        count,
-                        x.from,
-                        place,
-                        thing,
-                        x.text.as_slice(),
-                    )
-                }
+                Ok(thing) => dot(file.alloc, &file.records, count, place, x, thing),
             }
         }
         Expression::Arrow(a, _, x) => {
             let begin = begins_at(file, scope, first_of_expression(a.get()));
-            match value(alloc, a.get(), file, scope) {
+            match value(a.get(), file, scope) {
                 Err(fault) => Err(fault),
-                Ok(p) => {
-                    arrow(
-                        alloc,
-                        &file.records,
-                        begin.count,
-                        x.from,
-                        begin.place,
-                        p,
-                        x.text.as_slice(),
-                    )
-                }
+                Ok(p) => arrow(&file.records, begin, x, p),
             }
         }
         Expression::Post(a, op, at) => {
             let begin = begins_at(file, scope, first_of_expression(a.get()));
-            match find(alloc, a.get(), file, scope) {
+            match find(a.get(), file, scope) {
                 Err(fault) => Err(fault),
-                Ok(thing) => {
-                    step(
-                        alloc,
-                        begin.count,
-                        begin.at,
-                        *at,
-                        begin.place,
-                        step_of(*op),
-                        false,
-                        thing,
-                    )
-                }
+                Ok(thing) => step(begin, begin.at, *at, step_of(*op), false, thing),
             }
         }
         Expression::Pre(op, at, a) => {
             let begin = begins_at(file, scope, *at);
             let from = first_of_expression(a.get());
-            match find(alloc, a.get(), file, scope) {
+            match find(a.get(), file, scope) {
                 Err(fault) => Err(fault),
-                Ok(thing) => {
-                    step(
-                        alloc,
-                        begin.count,
-                        from,
-                        *at,
-                        begin.place,
-                        step_of(*op),
-                        true,
-                        thing,
-                    )
-                }
+                Ok(thing) => step(begin, from, *at, step_of(*op), true, thing),
             }
         }
         Expression::Unary(op, at, a) => {
             let begin = begins_at(file, scope, *at);
             let from = first_of_expression(a.get());
-            match find(alloc, a.get(), file, scope) {
+            match find(a.get(), file, scope) {
                 Err(fault) => Err(fault),
-                Ok(thing) => {
-                    unary_thing(alloc, file, *op, begin.count, from, *at, begin.place, thing)
-                }
+                Ok(thing) => unary_thing(file, *op, begin, from, *at, thing),
             }
         }
         Expression::SizeofExpression(at, a) => {
             let begin = begins_at(file, scope, *at);
             let from = first_of_expression(a.get());
             let inner = measured(file, scope);
-            match find(alloc, a.get(), file, inner) {
+            match find(a.get(), file, inner) {
                 Err(fault) => Err(fault),
-                Ok(thing) => {
-                    size_of_thing(
-                        alloc,
-                        file,
-                        scope,
-                        begin.count,
-                        *at,
-                        from,
-                        begin.place,
-                        thing,
-                    )
-                }
+                Ok(thing) => size_of_thing(file, scope, begin, from, thing),
             }
         }
         Expression::SizeofType(at, _, n, right) => {
             let place = place_in(file, scope, *at);
             let count = file.tags.ended(*right);
             let before = mentions_in(file);
-            match type_name(alloc, n, file, scope) {
+            match type_name(n, file, scope) {
                 Err(fault) => Err(fault),
-                Ok(t) => size_of_type(alloc, file, scope, before, count, *at, place, t),
+                Ok(t) => size_of_type(file, scope, before, count, *at, place, t),
             }
         }
         Expression::Cast(left, n, _, a) => {
             let place = place_in(file, scope, *left);
-            match type_name(alloc, n, file, scope) {
+            match type_name(n, file, scope) {
                 Err(fault) => Err(fault),
-                Ok(t) => match value(alloc, a.get(), file, scope) {
+                Ok(t) => match value(a.get(), file, scope) {
                     Err(fault) => Err(fault),
-                    Ok(x) => cast(alloc, place, t, x),
+                    Ok(x) => cast(file.alloc, place, t, x),
                 },
             }
         }
         Expression::Binary(a, op, at, b) => {
             let begin = begins_at(file, scope, first_of_expression(a.get()));
-            match value(alloc, a.get(), file, scope) {
+            match value(a.get(), file, scope) {
                 Err(fault) => Err(fault),
-                Ok(x) => match value(alloc, b.get(), file, scope) {
+                Ok(x) => match value(b.get(), file, scope) {
                     Err(fault) => Err(fault),
-                    Ok(y) => { binary(alloc, begin.count, *at, begin.place, kind_of(*op), x, y) }
+                    Ok(y) => binary(begin, *at, kind_of(*op), x, y),
                 },
             }
         }
         Expression::Cond(a, question, b, colon, c) => {
-            let place = place_in(file, scope, first_of_expression(a.get()));
-            match test(alloc, a.get(), file, scope, *question) {
+            let begin = begins_at(file, scope, first_of_expression(a.get()));
+            match test(a.get(), file, scope, *question) {
                 Err(fault) => Err(fault),
-                Ok(x) => match value(alloc, b.get(), file, scope) {
+                Ok(x) => match value(b.get(), file, scope) {
                     Err(fault) => Err(fault),
-                    Ok(y) => match value(alloc, c.get(), file, scope) {
+                    Ok(y) => match value(c.get(), file, scope) {
                         Err(fault) => Err(fault),
-                        Ok(z) => chosen(alloc, *colon, place, x, y, z),
+                        Ok(z) => chosen(begin, *colon, x, y, z),
                     },
                 },
             }
         }
         Expression::Assign(a, op, at, b) => {
             let begin = begins_at(file, scope, first_of_expression(a.get()));
-            match find(alloc, a.get(), file, scope) {
+            match find(a.get(), file, scope) {
                 Err(fault) => Err(fault),
                 Ok(thing) => match target_in(begin.at, thing) {
                     Err(fault) => Err(fault),
-                    Ok(target) => assign(alloc, b.get(), file, scope, begin, *op, *at, target),
+                    Ok(target) => assign(b.get(), file, scope, begin, *op, *at, target),
                 },
             }
         }
         Expression::Comma(a, _, b) => {
-            let place = place_in(file, scope, first_of_expression(a.get()));
-            match value(alloc, a.get(), file, scope) {
+            let begin = begins_at(file, scope, first_of_expression(a.get()));
+            match value(a.get(), file, scope) {
                 Err(fault) => Err(fault),
-                Ok(x) => match value(alloc, b.get(), file, scope) {
+                Ok(x) => match value(b.get(), file, scope) {
                     Err(fault) => Err(fault),
-                    Ok(y) => comma(alloc, place, x, y),
+                    Ok(y) => comma(begin, x, y),
                 },
             }
         }
@@ -258,33 +192,22 @@ fn find_any(
 
 /// The value of an expression (C99 6.3.2.1).
 #[cycle(finding)]
-pub fn value(
-    alloc: Global,
-    e: &Expression,
-    file: &mut FileScope,
-    scope: Scope,
-) -> Result<Boxed<Typed>, Fault>
+pub fn value(e: &Expression, file: &mut FileScope, scope: Scope) -> Result<Value, Fault>
     ensures { Finds expression_of result (value_at (first (tree_of e.now)) (find (tree_of e.now) (scope_of file.old scope.entry))) file.new }
 {
-    match find(alloc, e, file, scope) {
+    match find(e, file, scope) {
         Err(fault) => Err(fault),
-        Ok(thing) => worth(alloc, first_of_expression(e), thing),
+        Ok(thing) => worth(file.alloc, first_of_expression(e), thing),
     }
 }
 
 /// The value of an expression that is tested against zero. A fault of its type is named at `question`.
 #[cycle(finding)]
-fn test(
-    alloc: Global,
-    e: &Expression,
-    file: &mut FileScope,
-    scope: Scope,
-    question: u32,
-) -> Result<Boxed<Typed>, Fault>
+fn test(e: &Expression, file: &mut FileScope, scope: Scope, question: u32) -> Result<Value, Fault>
     ensures { Finds expression_of result
         (tested_at question (value_at (first (tree_of e.now)) (find (tree_of e.now) (scope_of file.old scope.entry)))) file.new }
 {
-    match value(alloc, e, file, scope) {
+    match value(e, file, scope) {
         Err(fault) => Err(fault),
         Ok(x) => tested(question, x),
     }
@@ -292,17 +215,12 @@ fn test(
 
 /// The value of an integer constant expression (C99 6.6).
 #[cycle(finding)]
-pub fn constant(
-    alloc: Global,
-    e: &Expression,
-    file: &mut FileScope,
-    scope: Scope,
-) -> Result<Integer, Fault>
+pub fn constant(e: &Expression, file: &mut FileScope, scope: Scope) -> Result<Integer, Fault>
     ensures { Finds integer_view result (constant_at (first (tree_of e.now))
         (value_at (first (tree_of e.now)) (find (tree_of e.now) (for_value (scope_of file.old scope.entry))))) file.new }
 {
     let inner = for_value(file, scope);
-    match value(alloc, e, file, inner) {
+    match value(e, file, inner) {
         Err(fault) => Err(fault),
         Ok(x) => constant_value(first_of_expression(e), x.get()),
     }
@@ -311,7 +229,6 @@ pub fn constant(
 /// A subscript on what is found (C99 6.5.2.1). The bracket stands at `left`.
 #[cycle(finding)]
 fn index(
-    alloc: Global,
     b: &Expression,
     file: &mut FileScope,
     scope: Scope,
@@ -322,17 +239,17 @@ fn index(
     ensures { Finds thing_of result (subscripted begin.count begin.at left begin.place (thing_of thing) (file_of file.old)
         (λ f. value_at (first (tree_of b.now)) (find (tree_of b.now) (moved (scope_of file.old scope.entry) f))) (array_in (thing_of thing))) file.new }
 {
-    match array_of(alloc, thing) {
+    match array_of(file.alloc, thing) {
         Err(want) => Err(Fault::Memory(want)),
-        Ok(Subscripted::Array(p, t)) => match value(alloc, b, file, scope) {
+        Ok(Subscripted::Array(p, t)) => match value(b, file, scope) {
             Err(fault) => Err(fault),
-            Ok(i) => element(alloc, left, begin.place, p, t, i),
+            Ok(i) => element(begin, left, p, t, i),
         },
-        Ok(Subscripted::Other(thing)) => match worth(alloc, begin.at, thing) {
+        Ok(Subscripted::Other(thing)) => match worth(file.alloc, begin.at, thing) {
             Err(fault) => Err(fault),
-            Ok(x) => match value(alloc, b, file, scope) {
+            Ok(x) => match value(b, file, scope) {
                 Err(fault) => Err(fault),
-                Ok(y) => indexed(alloc, begin.count, left, begin.place, x, y),
+                Ok(y) => indexed(begin, left, x, y),
             },
         },
     }
@@ -341,7 +258,6 @@ fn index(
 /// A call of what is found (C99 6.5.2.2), whose arguments end at `right`.
 #[cycle(finding)]
 fn call(
-    alloc: Global,
     all: &List<Argument>,
     file: &mut FileScope,
     scope: Scope,
@@ -352,10 +268,9 @@ fn call(
     ensures { Finds thing_of result
         (call_found right begin.at begin.place (thing_of thing) (arguments_of (map argument_of all.now)) (scope_of file.old scope.entry)) file.new }
 {
-    match signature_of(alloc, begin.at, &thing) {
+    match signature_of(file.alloc, begin.at, &thing) {
         Err(fault) => Err(fault),
         Ok(signature) => match arguments(
-            alloc,
             all,
             file,
             scope,
@@ -363,32 +278,25 @@ fn call(
             signature.parameters.get().as_slice(),
         ) {
             Err(fault) => Err(fault),
-            Ok(list) => called(alloc, begin.place, thing, signature.result, list),
+            Ok(list) => called(begin, thing, signature.result, list),
         },
     }
 }
 
 /// An argument, converted to its parameter's type.
 #[cycle(finding)]
-fn argument(
-    alloc: Global,
-    item: &Argument,
-    file: &mut FileScope,
-    scope: Scope,
-    t: &Ty,
-) -> Result<Boxed<Typed>, Fault>
+fn argument(item: &Argument, file: &mut FileScope, scope: Scope, t: &Ty) -> Result<Value, Fault>
     ensures { Finds expression_of result (argument_found (type_of t.now) (argument_of item.now).1 (scope_of file.old scope.entry)) file.new }
 {
-    match value(alloc, &item.value, file, scope) {
+    match value(&item.value, file, scope) {
         Err(fault) => Err(fault),
-        Ok(x) => converted_argument(alloc, first_of_expression(&item.value), t, x),
+        Ok(x) => converted_argument(file.alloc, first_of_expression(&item.value), t, x),
     }
 }
 
 /// The arguments of a call, each converted to its parameter's type. They end at `right`.
 #[cycle(finding)]
 fn arguments(
-    alloc: Global,
     all: &List<Argument>,
     file: &mut FileScope,
     scope: Scope,
@@ -398,13 +306,13 @@ fn arguments(
     ensures { Finds (λ done. expressions_of (map expression_of done)) result
         (arguments right (types_of parameters.now) (arguments_of (map argument_of all.now)) (scope_of file.old scope.entry)) file.new }
 {
-    let mut done = List::new(alloc);
+    let mut done = List::new(file.alloc);
     let mut types = parameters;
     for item in all.as_slice() {
         let Some((t, more)) = first_and_rest(types) else {
             return Err(Fault::IllTyped(Rule::Arguments, first_of_argument(item)));
         };
-        match argument(alloc, item, file, scope, t) {
+        match argument(item, file, scope, t) {
             Err(fault) => return Err(fault),
             Ok(x) => match add(&mut done, x.into_inner()) {
                 Ok(()) => types = more,
@@ -421,7 +329,6 @@ fn arguments(
 /// What is assigned to an object (C99 6.5.16), by an operator that stands at `at`.
 #[cycle(finding)]
 fn assign(
-    alloc: Global,
     b: &Expression,
     file: &mut FileScope,
     scope: Scope,
@@ -435,18 +342,18 @@ fn assign(
 {
     match (update_of(op), target) {
         (Some(op), Target::Scalar(p)) | (Some(op), Target::Record(p)) => {
-            match value(alloc, b, file, scope) {
+            match value(b, file, scope) {
                 Err(fault) => Err(fault),
-                Ok(x) => updated(alloc, begin.count, at, begin.place, op, p, x),
+                Ok(x) => updated(begin, at, op, p, x),
             }
         }
-        (None, Target::Scalar(p)) => match value(alloc, b, file, scope) {
+        (None, Target::Scalar(p)) => match value(b, file, scope) {
             Err(fault) => Err(fault),
-            Ok(x) => assigned(alloc, at, begin.place, p, x),
+            Ok(x) => assigned(begin, at, p, x),
         },
-        (None, Target::Record(p)) => match find(alloc, b, file, scope) {
+        (None, Target::Record(p)) => match find(b, file, scope) {
             Err(fault) => Err(fault),
-            Ok(thing) => copied(alloc, at, first_of_expression(b), begin.place, p, thing),
+            Ok(thing) => copied(begin, at, first_of_expression(b), p, thing),
         },
     }
 }

@@ -5,17 +5,8 @@ ghost use Rattle.c_erasure.specs.Erasure.{place_in};
 ghost use Rattle.c_erasure.specs.Checking.Finding.{complete};
 ghost use Rattle.c_scopes.specs.Scoping.{scope_of};
 
+use c_nodes::Start;
 use c_scopes::{FileScope, Scope, place_in};
-use lay_base::Place;
-
-/// Where a node begins.
-#[derive(Clone, Copy)]
-pub struct Start {
-    pub at: u32,
-    pub place: Place,
-    /// How many records are complete there.
-    pub count: usize,
-}
 
 /// What begins at a byte.
 pub fn begins_at(file: &FileScope, scope: Scope, at: u32) -> Start
@@ -24,6 +15,7 @@ pub fn begins_at(file: &FileScope, scope: Scope, at: u32) -> Start
     ensures count { result.count ≡ complete (scope_of file.now scope.entry) at }
 {
     Start {
+        alloc: file.alloc,
         at,
         place: place_in(file, scope, at),
         count: file.tags.ended(at),

@@ -28,27 +28,21 @@ use c_nodes::{Base, Fault, Storage, base_kind, int_value, next_value, storage_of
 use c_scopes::{FileScope, Scope};
 use c_types::{Field, Ty};
 use lay_base::{Boxed, List, Rule, add, boxed};
-use std::alloc::Global;
 
 /// The type that a type name names (C99 6.7.6).
 #[cycle(finding)]
 #[tactic(auto, unfolding(c_erasure::specs::Checking::Finding::type_name))]
-pub fn type_name(
-    alloc: Global,
-    n: &TypeName,
-    file: &mut FileScope,
-    scope: Scope,
-) -> Result<Ty, Fault>
+pub fn type_name(n: &TypeName, file: &mut FileScope, scope: Scope) -> Result<Ty, Fault>
     ensures { Finds type_of result (type_name (type_name_of n.now) (scope_of file.old scope.entry)) file.new }
 {
     let at = first_if_any(&n.declarator, first_of_specifiers(n.specifiers.as_slice()));
-    match base_alone(alloc, &n.specifiers, file, scope) {
+    match base_alone(&n.specifiers, file, scope) {
         Err(fault) => Err(fault),
         Ok(t) => {
             let before = mentions_in(file);
-            match derivations_if_any(alloc, &n.declarator, file, scope) {
+            match derivations_if_any(&n.declarator, file, scope) {
                 Err(fault) => Err(fault),
-                Ok(steps) => named_type(alloc, file, scope, before, at, steps, t),
+                Ok(steps) => named_type(file, scope, before, at, steps, t),
             }
         }
     }
@@ -57,7 +51,6 @@ pub fn type_name(
 /// The type that specifiers name, among which no storage class stands.
 #[cycle(finding)]
 fn base_alone(
-    alloc: Global,
     specifiers: &List<Specifier>,
     file: &mut FileScope,
     scope: Scope,
@@ -65,7 +58,7 @@ fn base_alone(
     ensures { Finds type_of result (base_alone (specifiers_of (map specifier_of specifiers.now)) (scope_of file.old scope.entry)) file.new }
 {
     match storage_of(specifiers.as_slice()) {
-        Storage::None => boxed_base(alloc, specifiers, file, scope),
+        Storage::None => boxed_base(specifiers, file, scope),
         _ => Err(Fault::IllTyped(Rule::Specifiers, first_of_specifiers(specifiers.as_slice()))),
     }
 }
@@ -73,7 +66,6 @@ fn base_alone(
 /// The type that specifiers name (C99 6.7.2).
 #[cycle(finding)]
 pub fn boxed_base(
-    alloc: Global,
     specifiers: &List<Specifier>,
     file: &mut FileScope,
     scope: Scope,
@@ -82,9 +74,9 @@ pub fn boxed_base(
         (first_specifiers (specifiers_of (map specifier_of specifiers.now))) (file_of file.old)
         (one_of (specifiers_of (map specifier_of specifiers.now)) (scope_of file.old scope.entry))) file.new }
 {
-    match base(alloc, specifiers, file, scope) {
+    match base(specifiers, file, scope) {
         Err(fault) => Err(fault),
-        Ok(t) => match boxed(alloc, t) {
+        Ok(t) => match boxed(file.alloc, t) {
             Ok(t) => Ok(t),
             Err(want) => Err(Fault::Memory(want)),
         },
@@ -93,12 +85,7 @@ pub fn boxed_base(
 
 /// The type that specifiers name (C99 6.7.2), beside which storage classes may stand.
 #[cycle(finding)]
-pub fn base(
-    alloc: Global,
-    specifiers: &List<Specifier>,
-    file: &mut FileScope,
-    scope: Scope,
-) -> Result<Ty, Fault>
+pub fn base(specifiers: &List<Specifier>, file: &mut FileScope, scope: Scope) -> Result<Ty, Fault>
     ensures { Finds type_of result (base_type (base_kind_of (specifiers_of (map specifier_of specifiers.now)))
         (first_specifiers (specifiers_of (map specifier_of specifiers.now))) (file_of file.old)
         (one_of (specifiers_of (map specifier_of specifiers.now)) (scope_of file.old scope.entry))) file.new }
@@ -106,7 +93,7 @@ pub fn base(
     match base_kind(specifiers.as_slice()) {
         Base::Void => Ok(Ty::Void),
         Base::Int(kind) => Ok(Ty::Int(kind)),
-        Base::One => one_of(alloc, specifiers, file, scope),
+        Base::One => one_of(specifiers, file, scope),
         Base::Missing => Err(Fault::IllTyped(
             Rule::Specifiers,
             first_of_specifiers(specifiers.as_slice()),
@@ -116,17 +103,12 @@ pub fn base(
 
 /// The type of the first specifier that is no keyword.
 #[cycle(finding)]
-fn one_of(
-    alloc: Global,
-    specifiers: &List<Specifier>,
-    file: &mut FileScope,
-    scope: Scope,
-) -> Result<Ty, Fault>
+fn one_of(specifiers: &List<Specifier>, file: &mut FileScope, scope: Scope) -> Result<Ty, Fault>
     ensures { Finds type_of result (one_of (specifiers_of (map specifier_of specifiers.now)) (scope_of file.old scope.entry)) file.new }
 {
     for specifier in specifiers.as_slice() {
         if !is_keyword(specifier) {
-            return specified(alloc, specifier, file, scope);
+            return specified(specifier, file, scope);
         }
     }
     Err(Fault::IllTyped(Rule::Specifiers, 0))
@@ -135,23 +117,18 @@ fn one_of(
 /// The type that one specifier names.
 #[cycle(finding)]
 #[tactic(auto, unfolding(c_erasure::specs::Checking::Finding::specified))]
-fn specified(
-    alloc: Global,
-    specifier: &Specifier,
-    file: &mut FileScope,
-    scope: Scope,
-) -> Result<Ty, Fault>
+fn specified(specifier: &Specifier, file: &mut FileScope, scope: Scope) -> Result<Ty, Fault>
     ensures { Finds type_of result (specified (specifier_of specifier.now) (scope_of file.old scope.entry)) file.new }
 {
     match specifier {
         Specifier::Keyword(_, at) => Err(Fault::IllTyped(Rule::Specifiers, *at)),
-        Specifier::Typename(x) => typename(alloc, file, scope, x),
-        Specifier::Struct(at, x) => tagged(alloc, file, scope, *at, x),
-        Specifier::StructBody(at, x, _, all, _) => structure(alloc, all, file, scope, *at, x),
-        Specifier::Enum(_, x) => enumerated(alloc, file, x),
+        Specifier::Typename(x) => typename(file, scope, x),
+        Specifier::Struct(at, x) => tagged(file, scope, *at, x),
+        Specifier::StructBody(at, x, _, all, _) => structure(all, file, scope, *at, x),
+        Specifier::Enum(_, x) => enumerated(file, x),
         Specifier::EnumBody(at, x, _, all, comma, right) => {
             let after = token_after(*comma, *right);
-            enumeration_of(alloc, all, file, scope, *at, after, x)
+            enumeration_of(all, file, scope, *at, after, x)
         }
     }
 }
@@ -160,7 +137,6 @@ fn specified(
 #[cycle(finding)]
 #[tactic(auto, using(crate::proofs::Structures::may_begin, crate::proofs::Structures::may_not_begin, crate::proofs::FieldObjects::fields_are_objects))]
 fn structure(
-    alloc: Global,
     all: &List<MemberDeclaration>,
     file: &mut FileScope,
     scope: Scope,
@@ -170,11 +146,11 @@ fn structure(
     ensures { Finds type_of result
         (structure_found at x.now (member_declarations_of (map member_declaration_of all.now)) (scope_of file.old scope.entry)) file.new }
 {
-    match begin(alloc, file, scope, at, x) {
+    match begin(file, scope, at, x) {
         Err(fault) => Err(fault),
-        Ok(heading) => match members(alloc, all, file, scope) {
+        Ok(heading) => match members(all, file, scope) {
             Err(fault) => Err(fault),
-            Ok(fields) => completed(alloc, file, at, x, all, heading, fields),
+            Ok(fields) => completed(file, at, x, all, heading, fields),
         },
     }
 }
@@ -182,16 +158,15 @@ fn structure(
 /// The fields of a structure.
 #[cycle(finding)]
 fn members(
-    alloc: Global,
     all: &List<MemberDeclaration>,
     file: &mut FileScope,
     scope: Scope,
 ) -> Result<List<Field>, Fault>
     ensures { Finds (map field_of) result (members (member_declarations_of (map member_declaration_of all.now)) (scope_of file.old scope.entry)) file.new }
 {
-    let mut done = List::new(alloc);
+    let mut done = List::new(file.alloc);
     for line in all.as_slice() {
-        match line_members(alloc, line, file, scope) {
+        match line_members(line, file, scope) {
             Err(fault) => return Err(fault),
             Ok(own) => match add_members(&mut done, own) {
                 Ok(()) => {}
@@ -205,7 +180,6 @@ fn members(
 /// The fields of one declaration of a structure.
 #[cycle(finding)]
 fn line_members(
-    alloc: Global,
     line: &MemberDeclaration,
     file: &mut FileScope,
     scope: Scope,
@@ -213,23 +187,15 @@ fn line_members(
     ensures { Finds (map field_of) result (line_found (member_declaration_of line.now).0 (member_declaration_of line.now).1
         (member_declaration_of line.now).2 (scope_of file.old scope.entry)) file.new }
 {
-    match base_alone(alloc, &line.specifiers, file, scope) {
+    match base_alone(&line.specifiers, file, scope) {
         Err(fault) => Err(fault),
-        Ok(t) => member_declarators(
-            alloc,
-            &line.declarators,
-            file,
-            scope,
-            line.semicolon,
-            t.get(),
-        ),
+        Ok(t) => member_declarators(&line.declarators, file, scope, line.semicolon, t.get()),
     }
 }
 
 /// The fields of a type and the declarators of a line, which ends at `semicolon`.
 #[cycle(finding)]
 fn member_declarators(
-    alloc: Global,
     all: &List<MemberDeclarator>,
     file: &mut FileScope,
     scope: Scope,
@@ -239,9 +205,9 @@ fn member_declarators(
     ensures { Finds (map field_of) result (member_declarators (member_declarators_of (map member_declarator_of all.now)) (type_of base.now) semicolon
         (scope_of file.old scope.entry)) file.new }
 {
-    let mut done = List::new(alloc);
+    let mut done = List::new(file.alloc);
     for d in all.as_slice() {
-        match member_declarator(alloc, d, file, scope, semicolon, base) {
+        match member_declarator(d, file, scope, semicolon, base) {
             Err(fault) => return Err(fault),
             Ok(field) => match add(&mut done, field) {
                 Ok(()) => {}
@@ -255,7 +221,6 @@ fn member_declarators(
 /// A field.
 #[cycle(finding)]
 fn member_declarator(
-    alloc: Global,
     d: &MemberDeclarator,
     file: &mut FileScope,
     scope: Scope,
@@ -266,28 +231,15 @@ fn member_declarator(
 {
     let begin = begins_at(file, scope, first_of_declarator(&d.declarator));
     let before = mentions_in(file);
-    match derivations(alloc, &d.declarator, file, scope) {
+    match derivations(&d.declarator, file, scope) {
         Err(fault) => Err(fault),
-        Ok(steps) => {
-            member(
-                alloc,
-                file,
-                scope,
-                before,
-                begin.count,
-                begin.place,
-                &d.declarator,
-                steps,
-                base,
-            )
-        }
+        Ok(steps) => member(file, scope, before, begin, &d.declarator, steps, base),
     }
 }
 
 /// The definition of an enumeration (C99 6.7.2.2), whose `enum` stands at `at`. Its last enumerator is known from `after` on.
 #[cycle(finding)]
 fn enumeration_of(
-    alloc: Global,
     all: &List<Enumerator>,
     file: &mut FileScope,
     scope: Scope,
@@ -300,16 +252,15 @@ fn enumeration_of(
     if scope.block.is_some() {
         return Err(Fault::IllTyped(Rule::Scope, at));
     }
-    match enumerators(alloc, all, file, scope, after) {
+    match enumerators(all, file, scope, after) {
         Err(fault) => Err(fault),
-        Ok(()) => enumeration(alloc, file, x),
+        Ok(()) => enumeration(file, x),
     }
 }
 
 /// The enumerators of an enumeration, which are added to the names of the file.
 #[cycle(finding)]
 fn enumerators(
-    alloc: Global,
     all: &List<Enumerator>,
     file: &mut FileScope,
     scope: Scope,
@@ -321,7 +272,7 @@ fn enumerators(
     let mut rest = all.as_slice();
     for one in all.as_slice() {
         rest = after_first(rest);
-        match enumerator(alloc, one, file, scope, known_from(rest, after), next) {
+        match enumerator(one, file, scope, known_from(rest, after), next) {
             Err(fault) => return Err(fault),
             Ok(v) => next = v.wrapping_add(1),
         }
@@ -332,7 +283,6 @@ fn enumerators(
 /// An enumerator, which is known from a byte on. `next` is its value where none is written.
 #[cycle(finding)]
 fn enumerator(
-    alloc: Global,
     one: &Enumerator,
     file: &mut FileScope,
     scope: Scope,
@@ -341,9 +291,9 @@ fn enumerator(
 ) -> Result<u32, Fault>
     ensures { Finds (λ v. v) result (enumerator_found (enumerator_of one.now).1 (enumerator_of one.now).2 from (scope_of file.old scope.entry) next) file.new }
 {
-    match enumerator_value(alloc, &one.value, file, scope, one.name.from, next) {
+    match enumerator_value(&one.value, file, scope, one.name.from, next) {
         Err(fault) => Err(fault),
-        Ok(v) => match declare_enumerator(alloc, file, &one.name, from, v) {
+        Ok(v) => match declare_enumerator(file, &one.name, from, v) {
             Err(fault) => Err(fault),
             Ok(()) => Ok(v),
         },
@@ -354,7 +304,6 @@ fn enumerator(
 #[cycle(finding)]
 #[tactic(auto, unfolding(c_erasure::specs::Checking::Finding::enumerator_value))]
 fn enumerator_value(
-    alloc: Global,
     written: &Option<EnumeratorValue>,
     file: &mut FileScope,
     scope: Scope,
@@ -366,7 +315,7 @@ fn enumerator_value(
 {
     match written {
         None => next_value(at, next),
-        Some(written) => match constant(alloc, written.value.get(), file, scope) {
+        Some(written) => match constant(written.value.get(), file, scope) {
             Err(fault) => Err(fault),
             Ok(c) => int_value(first_of_expression(written.value.get()), c),
         },

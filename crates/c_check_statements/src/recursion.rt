@@ -24,7 +24,6 @@ use c_nodes::{Fault, switched};
 use c_scopes::{Block, FileScope};
 use c_types::{IntKind, Ty};
 use lay_base::{Boxed, List};
-use std::alloc::Global;
 
 /// What stands around a statement: the type that the function gives, and whether a loop or a `switch` does.
 #[derive(Clone, Copy)]
@@ -64,7 +63,6 @@ fn in_switch<'a>(around: Around<'a>) -> Around<'a>
 #[cycle(performed)]
 #[tactic(auto, unfolding(c_erasure::specs::Checking::Statements::performed))]
 fn performed(
-    alloc: Global,
     a: &c_ast::Statement,
     around: Around,
     file: &mut FileScope,
@@ -76,79 +74,67 @@ fn performed(
 {
     match a {
         c_ast::Statement::Block(_, items, _) => {
-            let mut inner = inside(alloc, &*block);
-            match block_items(alloc, items.as_slice(), around, file, &mut inner, locals) {
-                Ok(all) => block_of(alloc, all),
+            let mut inner = inside(file.alloc, &*block);
+            match block_items(items.as_slice(), around, file, &mut inner, locals) {
+                Ok(all) => block_of(file.alloc, all),
                 Err(fault) => Err(fault),
             }
         }
-        c_ast::Statement::Expression(None, _) => block_of(alloc, List::new(alloc)),
+        c_ast::Statement::Expression(None, _) => block_of(file.alloc, List::new(file.alloc)),
         c_ast::Statement::Expression(Some(a), _) => {
-            let x = value_of_expression(alloc, a.get(), file, &*block, locals)?;
-            statement(alloc, Statement::Do(x))
+            let x = value_of_expression(a.get(), file, &*block, locals)?;
+            statement(file.alloc, Statement::Do(x))
         }
         c_ast::Statement::If(_, _, a, _, one) => {
-            let x = condition(alloc, a.get(), file, &*block, locals)?;
-            let one = performed(alloc, one.get(), around, file, &*block, locals)?;
-            statement(alloc, Statement::If(x, one, None))
+            let x = condition(a.get(), file, &*block, locals)?;
+            let one = performed(one.get(), around, file, &*block, locals)?;
+            statement(file.alloc, Statement::If(x, one, None))
         }
         c_ast::Statement::IfElse(_, _, a, _, one, _, other) => {
-            let x = condition(alloc, a.get(), file, &*block, locals)?;
-            let one = performed(alloc, one.get(), around, file, &*block, locals)?;
-            let other = performed(alloc, other.get(), around, file, &*block, locals)?;
-            if_else_of(alloc, x, one, other)
+            let x = condition(a.get(), file, &*block, locals)?;
+            let one = performed(one.get(), around, file, &*block, locals)?;
+            let other = performed(other.get(), around, file, &*block, locals)?;
+            if_else_of(file.alloc, x, one, other)
         }
         c_ast::Statement::While(_, _, a, _, body) => {
-            let x = condition(alloc, a.get(), file, &*block, locals)?;
-            let body = performed(alloc, body.get(), in_loop(around), file, &*block, locals)?;
-            statement(alloc, Statement::While(x, body))
+            let x = condition(a.get(), file, &*block, locals)?;
+            let body = performed(body.get(), in_loop(around), file, &*block, locals)?;
+            statement(file.alloc, Statement::While(x, body))
         }
         c_ast::Statement::DoWhile(_, body, _, _, a, _, _) => {
-            let body = performed(alloc, body.get(), in_loop(around), file, &*block, locals)?;
-            let x = condition(alloc, a.get(), file, &*block, locals)?;
-            statement(alloc, Statement::DoWhile(body, x))
+            let body = performed(body.get(), in_loop(around), file, &*block, locals)?;
+            let x = condition(a.get(), file, &*block, locals)?;
+            statement(file.alloc, Statement::DoWhile(body, x))
         }
         c_ast::Statement::For(_, _, start, test, _, step, _, body) => {
-            let mut inner = inside(alloc, &*block);
-            let start = start_of(alloc, start, file, &mut inner, locals)?;
-            let test = condition_if_any(alloc, test, file, &inner, locals)?;
-            let step = value_if_any(alloc, step, file, &inner, locals)?;
-            let body = performed(alloc, body.get(), in_loop(around), file, &inner, locals)?;
-            for_of(alloc, start, test, step, body)
+            let mut inner = inside(file.alloc, &*block);
+            let start = start_of(start, file, &mut inner, locals)?;
+            let test = condition_if_any(test, file, &inner, locals)?;
+            let step = value_if_any(step, file, &inner, locals)?;
+            let body = performed(body.get(), in_loop(around), file, &inner, locals)?;
+            for_of(file.alloc, start, test, step, body)
         }
         c_ast::Statement::Switch(_, _, a, _, _, items, _) => {
-            let x = value_of_expression(alloc, a.get(), file, &*block, locals)?;
-            let x = switched(alloc, first_of_expression(a.get()), x)?;
-            let mut inner = inside(alloc, &*block);
-            let arms = switch_items(
-                alloc,
-                items.as_slice(),
-                around,
-                x.kind,
-                file,
-                &mut inner,
-                locals,
-            )?;
-            switch_of(alloc, x, arms)
+            let x = value_of_expression(a.get(), file, &*block, locals)?;
+            let x = switched(file.alloc, first_of_expression(a.get()), x)?;
+            let mut inner = inside(file.alloc, &*block);
+            let arms = switch_items(items.as_slice(), around, x.kind, file, &mut inner, locals)?;
+            switch_of(file.alloc, x, arms)
         }
         c_ast::Statement::Break(at, _) => {
             let may = around.in_loop || around.in_switch;
-            jump(alloc, *at, may, Statement::Break)
+            jump(file.alloc, *at, may, Statement::Break)
         }
         c_ast::Statement::Continue(at, _) => {
-            jump(alloc, *at, around.in_loop, Statement::Continue)
+            jump(file.alloc, *at, around.in_loop, Statement::Continue)
         }
-        c_ast::Statement::Return(at, None, _) => nothing_returned(alloc, *at, around.result_type),
+        c_ast::Statement::Return(at, None, _) => nothing_returned(
+            file.alloc,
+            *at,
+            around.result_type,
+        ),
         c_ast::Statement::Return(at, Some(a), _) => {
-            value_returned(
-                alloc,
-                a.get(),
-                *at,
-                around.result_type,
-                file,
-                &*block,
-                locals,
-            )
+            value_returned(a.get(), *at, around.result_type, file, &*block, locals)
         }
     }
 }
@@ -157,7 +143,6 @@ fn performed(
 #[cycle(performed)]
 #[tactic(auto, unfolding(c_erasure::specs::Checking::Statements::item_in))]
 fn item_in(
-    alloc: Global,
     item: &BlockItem,
     around: Around,
     file: &mut FileScope,
@@ -171,9 +156,9 @@ fn item_in(
         file.new block.new locals.new }
 {
     match item {
-        BlockItem::Declaration(d) => local_declaration(alloc, d, file, block, locals, all),
+        BlockItem::Declaration(d) => local_declaration(d, file, block, locals, all),
         BlockItem::Statement(a) => {
-            match performed(alloc, a, around, file, block, locals) {
+            match performed(a, around, file, block, locals) {
                 Ok(st) => add_statement(all, st.into_inner()),
                 Err(fault) => Err(fault),
             }
@@ -184,7 +169,6 @@ fn item_in(
 /// The items of a block, after others.
 #[cycle(performed)]
 fn items_in(
-    alloc: Global,
     items: &[BlockItem],
     around: Around,
     file: &mut FileScope,
@@ -199,7 +183,7 @@ fn items_in(
         file.new block.new locals.new }
 {
     for item in items {
-        match item_in(alloc, item, around, file, block, locals, all) {
+        match item_in(item, around, file, block, locals, all) {
             Ok(()) => {}
             Err(fault) => return Err(fault),
         }
@@ -211,7 +195,6 @@ fn items_in(
 #[cycle(performed)]
 #[tactic(auto, using(c_check_parts::proofs::BlockLocals::InTurn::after_nothing))]
 pub fn block_items(
-    alloc: Global,
     items: &[BlockItem],
     around: Around,
     file: &mut FileScope,
@@ -223,8 +206,8 @@ pub fn block_items(
         (items_in_block result_type (block_items_of (map block_item_of items.now)) s around.entry.in_loop around.entry.in_switch)
         file.new block.new locals.new }
 {
-    let mut all = List::new(alloc);
-    match items_in(alloc, items, around, file, block, locals, &mut all) {
+    let mut all = List::new(file.alloc);
+    match items_in(items, around, file, block, locals, &mut all) {
         Ok(()) => Ok(all),
         Err(fault) => Err(fault),
     }
@@ -233,7 +216,6 @@ pub fn block_items(
 /// The arms of the items of a `switch` whose controlling expression has that type.
 #[cycle(performed)]
 fn switch_items(
-    alloc: Global,
     items: &[SwitchItem],
     around: Around,
     kind: IntKind,
@@ -246,12 +228,11 @@ fn switch_items(
         (with_first_arm (items_of_switch result_type (switch_items_of (map switch_item_of items.now)) s around.entry.in_loop kind no_labels))
         file.new block.new locals.new }
 {
-    let mut labels = no_labels(alloc);
-    let mut arms = List::new(alloc);
-    let mut last = first_arm(alloc);
+    let mut labels = no_labels(file.alloc);
+    let mut arms = List::new(file.alloc);
+    let mut last = first_arm(file.alloc);
     for item in items {
         match switch_item(
-            alloc,
             item,
             around,
             kind,
@@ -266,7 +247,7 @@ fn switch_items(
             Err(fault) => return Err(fault),
         }
     }
-    match close(alloc, &mut arms, last) {
+    match close(file.alloc, &mut arms, last) {
         Ok(()) => Ok(arms),
         Err(want) => Err(Fault::Memory(want)),
     }
@@ -276,7 +257,6 @@ fn switch_items(
 #[cycle(performed)]
 #[tactic(auto, unfolding(c_erasure::specs::Checking::Statements::switch_item), using(crate::proofs::StatementParts::ArmsInTurn::local_item))]
 fn switch_item(
-    alloc: Global,
     item: &SwitchItem,
     around: Around,
     kind: IntKind,
@@ -294,21 +274,14 @@ fn switch_item(
         file.new block.new locals.new }
 {
     match item {
-        SwitchItem::Local(d) => match declare_in_arm(alloc, d, file, block, locals, last) {
+        SwitchItem::Local(d) => match declare_in_arm(d, file, block, locals, last) {
             Ok(()) => Ok(()),
             Err(fault) => Err(fault),
         },
         SwitchItem::Labelled(own, a) => {
-            match labels_in(
-                alloc,
-                own.as_slice(),
-                file,
-                scope_in(block, locals),
-                kind,
-                labels,
-            ) {
-                Ok(own) => match performed(alloc, a, in_switch(around), file, block, locals) {
-                    Ok(st) => match add_labelled(alloc, arms, last, own, st) {
+            match labels_in(own.as_slice(), file, scope_in(block, locals), kind, labels) {
+                Ok(own) => match performed(a, in_switch(around), file, block, locals) {
+                    Ok(st) => match add_labelled(file.alloc, arms, last, own, st) {
                         Ok(()) => Ok(()),
                         Err(want) => Err(Fault::Memory(want)),
                     },

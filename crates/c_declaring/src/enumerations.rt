@@ -17,26 +17,25 @@ use c_ast::Spelling;
 use c_nodes::{Fault, name};
 use c_scopes::FileScope;
 use c_types::{IntKind, Ty};
-use std::alloc::Global;
 
 #[tactic(auto, unfolding(c_erasure::specs::Checking::Declaring::enumerated_in))]
-fn enumerated_type(alloc: Global, file: &FileScope, x: &Spelling) -> Result<Ty, Fault>
+fn enumerated_type(file: &FileScope, x: &Spelling) -> Result<Ty, Fault>
     ensures { Gives type_of result (enumerated_in (file_of file.now) x.now) }
 {
     let tag = x.text.as_slice();
     match file.tags.tag_at(tag, x.from) {
         Some(true) => Ok(Ty::Int(IntKind::Int)),
-        Some(false) => Err(Fault::Redeclared(name(alloc, tag)?, x.from, place_of(file, tag))),
-        None => Err(Fault::Undeclared(name(alloc, tag)?, x.from)),
+        Some(false) => Err(Fault::Redeclared(name(file.alloc, tag)?, x.from, place_of(file, tag))),
+        None => Err(Fault::Undeclared(name(file.alloc, tag)?, x.from)),
     }
 }
 
 /// `enum` and a tag, which was declared before.
 #[tactic(auto, using(crate::proofs::Kept::unchanged))]
-pub fn enumerated(alloc: Global, file: &FileScope, x: &Spelling) -> Result<Ty, Fault>
+pub fn enumerated(file: &FileScope, x: &Spelling) -> Result<Ty, Fault>
     ensures { Finds type_of result (with_file (file_of file.now) (enumerated_in (file_of file.now) x.now)) file.now }
 {
-    enumerated_type(alloc, file, x)
+    enumerated_type(file, x)
 }
 
 /// Where a tag stands first.
@@ -47,7 +46,7 @@ fn first_place(file: &FileScope, tag: &[u8]) -> Option<u32>
     file.tags.place_of_tag(tag)
 }
 
-fn enumeration_type(alloc: Global, file: &FileScope, x: &Option<Spelling>) -> Result<Ty, Fault>
+fn enumeration_type(file: &FileScope, x: &Option<Spelling>) -> Result<Ty, Fault>
     ensures { Gives type_of result (enumeration_of (file_of file.now) x.now) }
 {
     let Some(x) = x else {
@@ -55,7 +54,7 @@ fn enumeration_type(alloc: Global, file: &FileScope, x: &Option<Spelling>) -> Re
     };
     match first_place(file, x.text.as_slice()) {
         Some(first) if first != x.from => {
-            Err(Fault::Redeclared(name(alloc, x.text.as_slice())?, x.from, first))
+            Err(Fault::Redeclared(name(file.alloc, x.text.as_slice())?, x.from, first))
         }
         _ => Ok(Ty::Int(IntKind::Int)),
     }
@@ -63,16 +62,15 @@ fn enumeration_type(alloc: Global, file: &FileScope, x: &Option<Spelling>) -> Re
 
 /// The type of an enumeration that is defined; its tag stands nowhere else.
 #[tactic(auto, using(crate::proofs::Kept::unchanged))]
-pub fn enumeration(alloc: Global, file: &FileScope, x: &Option<Spelling>) -> Result<Ty, Fault>
+pub fn enumeration(file: &FileScope, x: &Option<Spelling>) -> Result<Ty, Fault>
     ensures { Finds type_of result (with_file (file_of file.now) (enumeration_of (file_of file.now) x.now)) file.now }
 {
-    enumeration_type(alloc, file, x)
+    enumeration_type(file, x)
 }
 
 /// Adds an enumerator with its value, which is known from a byte on, to the names of the file. Its name is new.
 #[tactic(auto, unfolding(c_erasure::specs::Checking::Declaring::enumerator_in))]
 pub fn declare_enumerator(
-    alloc: Global,
     file: &mut FileScope,
     x: &Spelling,
     from: u32,
@@ -83,15 +81,15 @@ pub fn declare_enumerator(
 {
     let text = x.text.as_slice();
     if let Some(old) = file.names.first(text) {
-        return Err(Fault::Redeclared(name(alloc, text)?, x.from, old.place));
+        return Err(Fault::Redeclared(name(file.alloc, text)?, x.from, old.place));
     }
     let bound = Bound {
-        name: name(alloc, text)?,
+        name: name(file.alloc, text)?,
         place: x.from,
         from,
         how: How::Defines,
         entity: Entity::Enumerator(v),
     };
-    file.names.add(alloc, bound)?;
+    file.names.add(file.alloc, bound)?;
     Ok(())
 }

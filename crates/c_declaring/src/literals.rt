@@ -70,26 +70,20 @@ fn literal_object(alloc: Global, place: Place, ty: Ty, bytes: Bytes) -> Result<O
 }
 
 /// Adds the object of a string literal to the file.
-fn add_object(
-    alloc: Global,
-    file: &mut FileScope,
-    scope: Scope,
-    at: Place,
-    bytes: Bytes,
-) -> Result<Thing, Fault>
+fn add_object(file: &mut FileScope, scope: Scope, at: Place, bytes: Bytes) -> Result<Thing, Fault>
     ensures { Finds thing_of result (literal_for in_full (scope_of file.old scope.entry) at bytes) file.new }
 {
     let number = file.objects.len();
     let n = bytes.len();
-    let object = literal_object(alloc, at, characters(alloc, n)?, bytes)?;
+    let object = literal_object(file.alloc, at, characters(file.alloc, n)?, bytes)?;
     add(&mut file.objects, object)?;
-    way(alloc, characters(alloc, n)?, at, PathNode::Object(number))
+    let t = characters(file.alloc, n)?;
+    way(file.alloc, t, at, PathNode::Object(number))
 }
 
 /// What adjacent string literals designate, which stand at a place: an object of the file, where they are evaluated.
 #[tactic(auto, unfolding(c_erasure::specs::Checking::Declaring::literal_in))]
 pub fn literal(
-    alloc: Global,
     file: &mut FileScope,
     scope: Scope,
     at: Place,
@@ -97,9 +91,9 @@ pub fn literal(
 ) -> Result<Thing, Fault>
     ensures { Finds thing_of result (literal_in (scope_of file.old scope.entry) at (literal_of all.now)) file.new }
 {
-    let bytes = literal_bytes(alloc, all)?;
+    let bytes = literal_bytes(file.alloc, all)?;
     match scope.purpose {
-        Purpose::InFull => add_object(alloc, file, scope, at, bytes),
-        _ => unmade(alloc, at, &characters(alloc, bytes.len())?),
+        Purpose::InFull => add_object(file, scope, at, bytes),
+        _ => unmade(file.alloc, at, &characters(file.alloc, bytes.len())?),
     }
 }

@@ -16,32 +16,22 @@ ghost use Rattle.c_declaring.specs.Finds.{Finds};
 use crate::mentions::mention;
 use crate::repeated::declared_name;
 use c_ast::Declarator;
-use c_nodes::{Derivation, Fault, closed, derived, name, object};
+use c_nodes::{Derivation, Fault, Start, closed, derived, name, object};
 use c_scopes::{FileScope, Scope};
 use c_typed::MentionKind;
 use c_types::{Field, Ty, copy};
 use lay_base::{Boxed, List, NoMemory, Place, Rule, add};
-use std::alloc::Global;
 
 /// The type that steps make of a type, where no length is left out. The declarator stands at `at`.
-fn derived_type(
-    alloc: Global,
-    file: &FileScope,
-    at: u32,
-    steps: List<Derivation>,
-    base: Ty,
-) -> Result<Ty, Fault>
+fn derived_type(file: &FileScope, at: u32, steps: List<Derivation>, base: Ty) -> Result<Ty, Fault>
     ensures { Gives type_of result (type_of_derived at (file_of file.now) (derivations_of steps) (type_of base)) }
 {
-    match derived(alloc, &file.records, steps, base) {
-        Err(fault) => Err(fault),
-        Ok(shape) => closed(at, shape),
-    }
+    let shape = derived(file.alloc, &file.records, steps, base)?;
+    closed(at, shape)
 }
 
 /// Lists a type that is named.
 pub fn listed(
-    alloc: Global,
     file: &mut FileScope,
     scope: Scope,
     before: usize,
@@ -51,7 +41,7 @@ pub fn listed(
     ensures { Finds type_of result
         (Ok (type_of t, with_mention (scope_of file.old scope.entry) before Named (type_of t) at (file_of file.old))) file.new }
 {
-    match mention(alloc, file, scope, before, MentionKind::Named, &t, at) {
+    match mention(file, scope, before, MentionKind::Named, &t, at) {
         Ok(()) => Ok(t),
         Err(want) => Err(Fault::Memory(want)),
     }
@@ -60,7 +50,6 @@ pub fn listed(
 /// The type that a type name names, by the steps of its declarator, which stands at `at`. It is listed before those from that place of the
 /// list on.
 pub fn named_type(
-    alloc: Global,
     file: &mut FileScope,
     scope: Scope,
     before: usize,
@@ -70,15 +59,12 @@ pub fn named_type(
 ) -> Result<Ty, Fault>
     ensures { Finds type_of result (type_name_in (scope_of file.old scope.entry) before at (file_of file.old) (derivations_of steps) (type_of base)) file.new }
 {
-    match derived_type(alloc, file, at, steps, base.into_inner()) {
-        Err(fault) => Err(fault),
-        Ok(t) => listed(alloc, file, scope, before, at, t),
-    }
+    let t = derived_type(file, at, steps, base.into_inner())?;
+    listed(file, scope, before, at, t)
 }
 
 /// A field of a type, which is listed.
 fn field(
-    alloc: Global,
     file: &mut FileScope,
     scope: Scope,
     before: usize,
@@ -92,40 +78,28 @@ fn field(
     let Some(x) = declared_name(d) else {
         return Err(Fault::IllTyped(Rule::Specifiers, place.at));
     };
-    match listed(alloc, file, scope, before, place.at, t) {
-        Err(fault) => Err(fault),
-        Ok(ty) => Ok(Field {
-            name: name(alloc, x.text.as_slice())?,
-            ty,
-            place,
-        }),
-    }
+    let ty = listed(file, scope, before, place.at, t)?;
+    let name = name(file.alloc, x.text.as_slice())?;
+    Ok(Field { name, ty, place })
 }
 
-/// A field, by the steps of its declarator, which stands at `place`, where `count` records are complete. Its type is listed before those
-/// from that place of the list on.
+/// A field, by the steps of its declarator. Its type is listed before those from that place of the list on.
 pub fn member(
-    alloc: Global,
     file: &mut FileScope,
     scope: Scope,
     before: usize,
-    count: usize,
-    place: Place,
+    begin: Start,
     d: &Declarator,
     steps: List<Derivation>,
     base: &Ty,
 ) -> Result<Field, Fault>
-    ensures { Finds field_of result (field_in (scope_of file.old scope.entry) before count place (declared_name (declarator_of d.now))
+    ensures { Finds field_of result (field_in (scope_of file.old scope.entry) before begin.count begin.place (declared_name (declarator_of d.now))
         (file_of file.old) (derivations_of steps) (type_of base.now)) file.new }
 {
-    let base = copy(alloc, base)?;
-    match derived_type(alloc, file, place.at, steps, base) {
-        Err(fault) => Err(fault),
-        Ok(t) => match object(&file.records, count, place.at, t) {
-            Err(fault) => Err(fault),
-            Ok(t) => field(alloc, file, scope, before, place, d, t),
-        },
-    }
+    let base = copy(file.alloc, base)?;
+    let t = derived_type(file, begin.place.at, steps, base)?;
+    let t = object(&file.records, begin.count, begin.place.at, t)?;
+    field(file, scope, before, begin.place, d, t)
 }
 
 /// Adds the fields of a line to those before.

@@ -40,20 +40,14 @@ fn insert(
 
 /// Lists one before those that are listed from a place of the list on.
 #[tactic(auto, using(crate::proofs::Inserted::as_seen))]
-fn add_mention(
-    alloc: Global,
-    file: &mut FileScope,
-    before: usize,
-    one: Mention,
-) -> Result<(), NoMemory>
+fn add_mention(file: &mut FileScope, before: usize, one: Mention) -> Result<(), NoMemory>
     ensures { OnOk result (file_of file.new ≡ mentioned before (mention_of one) (file_of file.old)) }
 {
-    insert(alloc, &mut file.mentions, before, one)
+    insert(file.alloc, &mut file.mentions, before, one)
 }
 
 /// Lists a type before those that are listed from that place of the list on; in the operand of a `sizeof` none is listed.
 pub fn mention(
-    alloc: Global,
     file: &mut FileScope,
     scope: Scope,
     before: usize,
@@ -67,8 +61,8 @@ pub fn mention(
     match scope.purpose {
         Purpose::TypeAlone => Ok(()),
         _ => {
-            let ty = copy(alloc, t)?;
-            add_mention(alloc, file, before, Mention { kind, ty, at })
+            let ty = copy(file.alloc, t)?;
+            add_mention(file, before, Mention { kind, ty, at })
         }
     }
 }

@@ -21,29 +21,27 @@ use c_ast::Spelling;
 use c_nodes::{Fault, named as entity_thing, node, typedef_named};
 use c_scopes::{FileScope, Scope, named, place_in};
 use c_types::{IntKind, Ty};
-use std::alloc::Global;
 
-fn name_thing(alloc: Global, file: &FileScope, scope: Scope, x: &Spelling) -> Result<Thing, Fault>
+fn name_thing(file: &FileScope, scope: Scope, x: &Spelling) -> Result<Thing, Fault>
     ensures { Gives thing_of result (named_in (place_in (scope_of file.now scope.entry) x.now.from) x.now.text
         (entity_named (scope_of file.now scope.entry) x.now.text x.now.from)) }
 {
     let at = place_in(file, scope, x.from);
     let text = x.text.as_slice();
-    entity_thing(alloc, at, text, named(file, scope, text, x.from))
+    entity_thing(file.alloc, at, text, named(file, scope, text, x.from))
 }
 
 /// What a name designates where it stands.
 #[tactic(auto, using(crate::proofs::Kept::unchanged))]
-pub fn name(alloc: Global, file: &FileScope, scope: Scope, x: &Spelling) -> Result<Thing, Fault>
+pub fn name(file: &FileScope, scope: Scope, x: &Spelling) -> Result<Thing, Fault>
     ensures { Finds thing_of result (with_file (file_of file.now) (named_in (place_in (scope_of file.now scope.entry) x.now.from) x.now.text
         (entity_named (scope_of file.now scope.entry) x.now.text x.now.from))) file.now }
 {
-    name_thing(alloc, file, scope, x)
+    name_thing(file, scope, x)
 }
 
 /// An integer constant, which stands at `at`.
 pub fn number(
-    alloc: Global,
     file: &FileScope,
     scope: Scope,
     at: u32,
@@ -54,34 +52,29 @@ pub fn number(
         (Ok (a_value (value (integer kind) (place_in (scope_of file.now scope.entry) at) (constant n)), file_of file.now)) file.now }
 {
     let place = place_in(file, scope, at);
-    node(alloc, Ty::Int(kind), place, ExpressionNode::Constant(n))
+    let constant = ExpressionNode::Constant(n);
+    node(file.alloc, Ty::Int(kind), place, constant)
 }
 
 /// A character constant, which stands at `at`.
-pub fn character(
-    alloc: Global,
-    file: &FileScope,
-    scope: Scope,
-    at: u32,
-    n: u32,
-) -> Result<Thing, Fault>
+pub fn character(file: &FileScope, scope: Scope, at: u32, n: u32) -> Result<Thing, Fault>
     ensures { Finds thing_of result
         (Ok (a_value (value (integer Int) (place_in (scope_of file.now scope.entry) at) (constant n)), file_of file.now)) file.now }
 {
-    number(alloc, file, scope, at, n, IntKind::Int)
+    number(file, scope, at, n, IntKind::Int)
 }
 
-fn typedef_type(alloc: Global, file: &FileScope, scope: Scope, x: &Spelling) -> Result<Ty, Fault>
+fn typedef_type(file: &FileScope, scope: Scope, x: &Spelling) -> Result<Ty, Fault>
     ensures { Gives type_of result (type_named x.now (entity_named (scope_of file.now scope.entry) x.now.text x.now.from)) }
 {
-    typedef_named(alloc, x, named(file, scope, x.text.as_slice(), x.from))
+    typedef_named(file.alloc, x, named(file, scope, x.text.as_slice(), x.from))
 }
 
 /// The type for which the name of a typedef stands (C99 6.7.7).
 #[tactic(auto, using(crate::proofs::Kept::unchanged))]
-pub fn typename(alloc: Global, file: &FileScope, scope: Scope, x: &Spelling) -> Result<Ty, Fault>
+pub fn typename(file: &FileScope, scope: Scope, x: &Spelling) -> Result<Ty, Fault>
     ensures { Finds type_of result
         (with_file (file_of file.now) (type_named x.now (entity_named (scope_of file.now scope.entry) x.now.text x.now.from))) file.now }
 {
-    typedef_type(alloc, file, scope, x)
+    typedef_type(file, scope, x)
 }

@@ -27,7 +27,6 @@ use std::alloc::Global;
 /// The type of a parameter, whose name is new in its list.
 #[tactic(auto, using(crate::proofs::Kept::unchanged))]
 fn new_parameter(
-    alloc: Global,
     file: &FileScope,
     scope: Scope,
     x: Option<&Spelling>,
@@ -39,7 +38,7 @@ fn new_parameter(
 {
     if let Some(x) = x {
         if let Some(old) = here(file, scope, x.text.as_slice()) {
-            return Err(Fault::Redeclared(name(alloc, x.text.as_slice())?, x.from, old.place));
+            return Err(Fault::Redeclared(name(file.alloc, x.text.as_slice())?, x.from, old.place));
         }
     }
     scalar(at, t)
@@ -47,7 +46,6 @@ fn new_parameter(
 
 /// The type of a parameter, by what its declarator makes.
 fn made(
-    alloc: Global,
     file: &mut FileScope,
     scope: Scope,
     before: usize,
@@ -57,16 +55,13 @@ fn made(
 ) -> Result<Ty, Fault>
     ensures { Finds type_of result (parameter_made (scope_of file.old scope.entry) before at (option_copied x.entry) (file_of file.old) (shape_of shape)) file.new }
 {
-    let t = parameter_type(alloc, shape)?;
-    match new_parameter(alloc, file, scope, x, at, t) {
-        Err(fault) => Err(fault),
-        Ok(t) => listed(alloc, file, scope, before, at, t),
-    }
+    let t = parameter_type(file.alloc, shape)?;
+    let t = new_parameter(file, scope, x, at, t)?;
+    listed(file, scope, before, at, t)
 }
 
 /// The type of a parameter, by the steps of its declarator, which stands at `at`. It is listed before those from that place of the list on.
 pub fn parameter(
-    alloc: Global,
     file: &mut FileScope,
     scope: Scope,
     before: usize,
@@ -78,10 +73,8 @@ pub fn parameter(
     ensures { Finds type_of result (parameter_in (scope_of file.old scope.entry) before at
         (declared_name (declarator_if_any (option_map declarator_of d.now))) (file_of file.old) (derivations_of steps) (type_of base)) file.new }
 {
-    match derived(alloc, &file.records, steps, base.into_inner()) {
-        Err(fault) => Err(fault),
-        Ok(shape) => made(alloc, file, scope, before, at, name_if_any(d), shape),
-    }
+    let shape = derived(file.alloc, &file.records, steps, base.into_inner())?;
+    made(file, scope, before, at, name_if_any(d), shape)
 }
 
 /// Adds the name of a parameter, where it has one, to a block.

@@ -13,16 +13,14 @@ ghost use Rattle.c_declaring.specs.Finds.{Finds};
 
 use crate::mentions::{mention, mentions_in};
 use c_annotated::Thing;
-use c_nodes::{Fault, SizedType, measured, size_constant, sized};
+use c_nodes::{Fault, SizedType, Start, measured, size_constant, sized};
 use c_scopes::{FileScope, Scope};
 use c_typed::MentionKind;
 use c_types::Ty;
 use lay_base::Place;
-use std::alloc::Global;
 
 /// The constant that a `sizeof` is, whose type is listed.
 fn constant(
-    alloc: Global,
     file: &mut FileScope,
     scope: Scope,
     before: usize,
@@ -36,36 +34,38 @@ fn constant(
       with_mention (scope_of file.old scope.entry) before Sizeof (type_of it.ty) at (file_of file.old),
     )) file.new }
 {
-    match mention(alloc, file, scope, before, MentionKind::Sizeof, &it.ty, at) {
-        Ok(()) => size_constant(alloc, place, it),
+    match mention(file, scope, before, MentionKind::Sizeof, &it.ty, at) {
+        Ok(()) => size_constant(file.alloc, place, it),
         Err(want) => Err(Fault::Memory(want)),
     }
 }
 
-/// The size of an operand, which begins at `from`. `sizeof` stands at `at`, where `count` records are complete.
+/// The size of an operand, which begins at `from`, where `sizeof` stands at `begin`.
 pub fn size_of_thing(
-    alloc: Global,
     file: &mut FileScope,
     scope: Scope,
-    count: usize,
-    at: u32,
+    begin: Start,
     from: u32,
-    place: Place,
     thing: Thing,
 ) -> Result<Thing, Fault>
-    ensures { Finds thing_of result (measured_size (scope_of file.old scope.entry) count at from place (file_of file.old) (thing_of thing)) file.new }
+    ensures { Finds thing_of result (measured_size (scope_of file.old scope.entry) begin.count begin.at from begin.place (file_of file.old) (thing_of thing)) file.new }
 {
     let before = mentions_in(file);
-    match measured(alloc, &file.records, count, at, from, &thing) {
+    let Start {
+        at,
+        place,
+        count,
+        ..
+    } = begin;
+    match measured(file.alloc, &file.records, count, at, from, &thing) {
         Err(fault) => Err(fault),
-        Ok(it) => constant(alloc, file, scope, before, at, place, it),
+        Ok(it) => constant(file, scope, before, at, place, it),
     }
 }
 
 /// The size of a type, which is listed before those from that place of the list on. `sizeof` stands at `at`, and `count` records are
 /// complete where the type name ends.
 pub fn size_of_type(
-    alloc: Global,
     file: &mut FileScope,
     scope: Scope,
     before: usize,
@@ -76,8 +76,6 @@ pub fn size_of_type(
 ) -> Result<Thing, Fault>
     ensures { Finds thing_of result (sized_size (scope_of file.old scope.entry) before count at place (file_of file.old) (type_of t)) file.new }
 {
-    match sized(&file.records, count, at, t) {
-        Err(fault) => Err(fault),
-        Ok(it) => constant(alloc, file, scope, before, at, place, it),
-    }
+    let it = sized(&file.records, count, at, t)?;
+    constant(file, scope, before, at, place, it)
 }

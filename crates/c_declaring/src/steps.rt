@@ -32,8 +32,6 @@ pub fn array_step(
 ) -> Result<List<Derivation>, Fault>
     ensures { Finds derivations_of result (array_step_in (file_of file.now) at count left (integer_view c) (derivations_of steps)) file.now }
 {
-    match length(at, c) {
-        Err(fault) => Err(fault),
-        Ok(n) => with_step(steps, Derivation::Array(count, left, n)),
-    }
+    let n = length(at, c)?;
+    with_step(steps, Derivation::Array(count, left, n))
 }

@@ -18,7 +18,6 @@ use c_nodes::{Fault, name};
 use c_scopes::{FileScope, Scope, place_in};
 use c_types::{Field, Record, RecordFault, Records, Ty, checked_size_of};
 use lay_base::{List, Name, Place, Rule};
-use std::alloc::Global;
 
 /// The tag of a structure that is defined, and its place.
 #[derive(Drop)]
@@ -30,7 +29,6 @@ pub struct Heading {
 /// The tag and the place of a structure that is defined, whose `struct` stands at `at`: at file scope, under a tag that is none of an
 /// enumeration.
 pub fn begin(
-    alloc: Global,
     file: &FileScope,
     scope: Scope,
     at: u32,
@@ -43,14 +41,14 @@ pub fn begin(
     }
     let place = place_in(file, scope, at);
     let Some(x) = x else {
-        let tag = name(alloc, file.tags.untagged(at))?;
+        let tag = name(file.alloc, file.tags.untagged(at))?;
         return Ok(Heading { tag, place });
     };
     let text = x.text.as_slice();
     match file.tags.tag_at(text, x.from) {
-        Some(true) => Err(Fault::Redeclared(name(alloc, text)?, x.from, place_of(file, text))),
+        Some(true) => Err(Fault::Redeclared(name(file.alloc, text)?, x.from, place_of(file, text))),
         _ => Ok(Heading {
-            tag: name(alloc, text)?,
+            tag: name(file.alloc, text)?,
             place,
         }),
     }
@@ -126,7 +124,6 @@ fn complete(file: &mut FileScope, named: u32, it: Record) -> Result<Ty, Fault>
 /// Adds the record of a structure whose definition ends, with fields of complete types. Its members' names differ.
 #[tactic(auto, unfolding(c_erasure::specs::Checking::Declaring::completed_in))]
 pub fn completed(
-    alloc: Global,
     file: &mut FileScope,
     at: u32,
     x: &Option<Spelling>,
@@ -139,7 +136,7 @@ pub fn completed(
         (member_names (member_declarations_of (map member_declaration_of all.now)))
         (record { tag = heading.tag; place = heading.place; fields = map field_of fields })) file.new }
 {
-    repeated(alloc, all)?;
+    repeated(file.alloc, all)?;
     let Heading { tag, place } = heading;
     complete(file, tag_place(at, x), Record { tag, place, fields })
 }

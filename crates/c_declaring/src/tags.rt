@@ -13,7 +13,6 @@ use c_nodes::{Fault, name};
 use c_scopes::{FileScope, Scope};
 use c_types::Ty;
 use lay_base::Rule;
-use std::alloc::Global;
 
 /// The number of the structure with a tag.
 #[tactic(auto, using(crate::proofs::Tables::same_number))]
@@ -43,19 +42,13 @@ fn structure(file: &FileScope, at: u32, tag: &[u8]) -> Result<Ty, Fault>
 
 /// `struct`, which stands at `at`, and a tag.
 #[tactic(auto, unfolding(c_erasure::specs::Checking::Declaring::tagged_in))]
-fn tagged_type(
-    alloc: Global,
-    file: &FileScope,
-    scope: Scope,
-    at: u32,
-    x: &Spelling,
-) -> Result<Ty, Fault>
+fn tagged_type(file: &FileScope, scope: Scope, at: u32, x: &Spelling) -> Result<Ty, Fault>
     ensures { Gives type_of result (tagged_in (scope_of file.now scope.entry) at x.now) }
 {
     let tag = x.text.as_slice();
     match file.tags.tag_at(tag, x.from) {
         Some(false) => structure(file, at, tag),
-        Some(true) => Err(Fault::Redeclared(name(alloc, tag)?, x.from, place_of(file, tag))),
+        Some(true) => Err(Fault::Redeclared(name(file.alloc, tag)?, x.from, place_of(file, tag))),
         None => {
             if scope.block.is_some() {
                 Err(Fault::IllTyped(Rule::Scope, at))
@@ -68,14 +61,8 @@ fn tagged_type(
 
 /// `struct`, which stands at `at`, and a tag, which was declared before, or is new at file scope.
 #[tactic(auto, using(crate::proofs::Kept::unchanged))]
-pub fn tagged(
-    alloc: Global,
-    file: &FileScope,
-    scope: Scope,
-    at: u32,
-    x: &Spelling,
-) -> Result<Ty, Fault>
+pub fn tagged(file: &FileScope, scope: Scope, at: u32, x: &Spelling) -> Result<Ty, Fault>
     ensures { Finds type_of result (with_file (file_of file.now) (tagged_in (scope_of file.now scope.entry) at x.now)) file.now }
 {
-    tagged_type(alloc, file, scope, at, x)
+    tagged_type(file, scope, at, x)
 }

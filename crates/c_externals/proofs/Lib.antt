@@ -1,5 +1,5 @@
 pub mod Changed
 pub mod LibraryNames
 pub mod Marks
-pub mod Named
+pub mod NamedParameters
 pub mod Signatures

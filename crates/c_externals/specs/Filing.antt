@@ -12,8 +12,7 @@ use Rattle.c_erasure.specs.Files.{bound, object_how}
 use Rattle.c_erasure.specs.Specifiers.{Storage}
 use Rattle.c_erasure.specs.Checking.Answers.{Answer, ◌>>=◌, Checked}
 use Rattle.c_erasure.specs.Checking.Declaring.{declared_among, with_bound}
-use Rattle.c_erasure.specs.Checking.Files.{defined_among, defined_once, function_of, library_again, library_named, main_function, object_of, once, own_name}
-use Rattle.c_erasure.specs.Checking.Files.{place_of_bound}
+use Rattle.c_erasure.specs.Checking.Files.{defined_among, defined_once, function_of, library_named, main_function, object_of, once, own_name}
 use Rattle.c_erasure.specs.Scopes as Scopes
 use Rattle.c_nodes.specs.declared.fault.Fault.{Fault}
 use Rattle.c_nodes.specs.Gives.{Fails}
@@ -79,12 +78,6 @@ abbrev pub function_bound : Scopes.FileScope → Storage → Spelling → (place
 function_bound f words x place left nodes t = own_name x.from (library_named x.text) (main_function x.text x.from t
     (function_of f words x place t nodes (declared_among f.names x.text) >>= λ n. once x (defined_among f.names x.text)
     (Ok (n.0, with_bound n.1 (bound x left Scopes.defines (Scopes.a_function n.0 t))))))
-
--- a function of the library is declared again, or its name stands for something else
-abbrev pub library_bound : Scopes.FileScope → Spelling → (from : ℕ) → LibraryFunction → Answer Scopes.FileScope
-library_bound f x from which = if library_again which (declared_among f.names x.text)
-    then Ok (with_bound f (bound x from Scopes.declares (Scopes.a_library_function which)))
-    else Err (redeclared x.text x.from (place_of_bound (declared_among f.names x.text)))
 
 -- where a name stands that is none of the library's
 abbrev pub other_place : Option Scopes.Bound → Option ℕ

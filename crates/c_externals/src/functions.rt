@@ -7,18 +7,20 @@ ghost use Rattle.c_typed.specs.declared.operators.LibraryFunction.{LibraryFuncti
 ghost use Rattle.c_annotated.specs.FileViews.{bound_of, entity_of, function_of as function_view, local_of};
 ghost use Rattle.c_annotated.specs.Views.{statement_of};
 ghost use Rattle.c_erasure.specs.Checking.Declaring.{declared_among};
-ghost use Rattle.c_erasure.specs.Checking.Files.{declare_function as declare_function_in, declare_library as declare_library_in, declare_own as declare_own_in};
+ghost use Rattle.c_erasure.specs.Checking.Files.{declare_function as declare_function_in, declare_library as declare_library_in};
 ghost use Rattle.c_erasure.specs.Checking.Files.{function_linkage_agrees, function_linked_before, function_of as function_of_in};
 ghost use Rattle.c_erasure.specs.Checking.Files.{known_function as known_function_in};
 ghost use Rattle.c_erasure.specs.Checking.Files.{library_named as library_named_in, new_function, with_new_function};
-ghost use Rattle.c_externals.specs.Filing.{Files, function_bound, functions_with, library_bound, other_place, with_body};
+ghost use Rattle.c_externals.specs.Filing.{Files, function_bound, functions_with, other_place, with_body};
 ghost use Rattle.c_declaring.specs.Finds.{Finds};
 ghost use Rattle.c_nodes.specs.DeclaratorTypes.SpecifierViews.{storage_view};
 ghost use Rattle.c_nodes.specs.Gives.{Gives};
 ghost use Rattle.c_scopes.specs.Scoping.{file_of};
 
 use crate::library::is_library_type;
-use crate::names::{bind, library_named, main_function, once, own_name, place_of_definition};
+use crate::names::{
+    Named, bind, library_named, main_function, once, own_name, place_of_definition,
+};
 use crate::objects::links;
 use c_annotated::{Bound, Entity, Function, How, Local, Statement};
 use c_ast::Spelling;
@@ -48,75 +50,57 @@ fn linked_before(file: &FileScope, n: usize) -> bool
 }
 
 /// The function for which a name stands already.
-fn known_function(
-    alloc: Global,
-    file: &FileScope,
-    words: Storage,
-    x: &Spelling,
-    t: &Ty,
-    old: &Bound,
-) -> Result<usize, Fault>
+fn known_function(file: &FileScope, it: Named, t: &Ty, old: &Bound) -> Result<usize, Fault>
     ensures { Gives (λ n. (n, file_of file.now)) result
-        (known_function_in (file_of file.now) (storage_view words) x.now (type_of t.now) (bound_of old.now) (entity_of old.now.entity)) }
+        (known_function_in (file_of file.now) (storage_view it.entry.words) it.entry.x.now (type_of t.now) (bound_of old.now) (entity_of old.now.entity)) }
 {
     match &old.entity {
-        Entity::Function(n, u) if same(u, t) && linkage_agrees(words, linked_before(file, *n)) => {
-            Ok(*n)
-        }
-        _ => Err(Fault::Redeclared(name(alloc, x.text.as_slice())?, x.from, old.place)),
+        Entity::Function(n, u) if same(u, t) && linkage_agrees(it.words, linked_before(file, *n)) =>
+            { Ok(*n) }
+        _ => Err(Fault::Redeclared(
+            name(file.alloc, it.x.text.as_slice())?,
+            it.x.from,
+            old.place,
+        )),
     }
 }
 
 /// A new function, of which no more is known than its declaration.
-fn add_function(
-    alloc: Global,
-    file: &mut FileScope,
-    words: Storage,
-    x: &Spelling,
-    place: u32,
-    t: &Ty,
-    nodes: u64,
-) -> Result<usize, NoMemory>
+fn add_function(file: &mut FileScope, it: Named, t: &Ty) -> Result<usize, NoMemory>
     ensures number { IfOk result (λ n. n ≡ length file.old.functions) }
     ensures added { OnOk result (file_of file.new
-        ≡ with_new_function (file_of file.old) (new_function (file_of file.old) (storage_view words) x.now place (type_of t.now) nodes)) }
+        ≡ with_new_function (file_of file.old)
+        (new_function (file_of file.old) (storage_view it.entry.words) it.entry.x.now it.entry.place (type_of t.now) it.entry.nodes)) }
 {
     let n = file.functions.len();
     let g = Function {
-        name: name(alloc, x.text.as_slice())?,
+        name: name(file.alloc, it.x.text.as_slice())?,
         place: Place {
             file: file.number,
-            at: place,
+            at: it.place,
         },
-        first: place,
-        ty: copy(alloc, t)?,
-        is_linked: links(words),
-        parameters: List::new(alloc),
-        locals: List::new(alloc),
+        first: it.place,
+        ty: copy(file.alloc, t)?,
+        is_linked: links(it.words),
+        parameters: List::new(file.alloc),
+        locals: List::new(file.alloc),
         body: None,
-        nodes,
+        nodes: it.nodes,
     };
     add(&mut file.functions, g)?;
     Ok(n)
 }
 
-/// The number of the function that a declaration declares, which stands at `place`.
+/// The number of the function that a declaration declares.
 #[tactic(auto, unfolding(c_erasure::specs::Checking::Files::function_of))]
-fn function_of(
-    alloc: Global,
-    file: &mut FileScope,
-    words: Storage,
-    x: &Spelling,
-    place: u32,
-    t: &Ty,
-    nodes: u64,
-) -> Result<usize, Fault>
+fn function_of(file: &mut FileScope, it: Named, t: &Ty) -> Result<usize, Fault>
     ensures { let f = file_of file.old in
-        Finds (λ n. n) result (function_of_in f (storage_view words) x.now place (type_of t.now) nodes (declared_among f.names x.now.text)) file.new }
+        Finds (λ n. n) result (function_of_in f (storage_view it.entry.words) it.entry.x.now it.entry.place (type_of t.now) it.entry.nodes
+        (declared_among f.names it.entry.x.now.text)) file.new }
 {
-    match file.names.first(x.text.as_slice()) {
-        Some(old) => known_function(alloc, file, words, x, t, old),
-        None => Ok(add_function(alloc, file, words, x, place, t, nodes)?),
+    match file.names.first(it.x.text.as_slice()) {
+        Some(old) => known_function(file, it, t, old),
+        None => Ok(add_function(file, it, t)?),
     }
 }
 
@@ -133,108 +117,53 @@ fn place_of_other(file: &FileScope, x: &[u8]) -> Option<u32>
     }
 }
 
-/// The name of a function of the library, which stands for nothing else.
+/// A function of the library, under its own name and type. The name stands for nothing else.
 #[tactic(auto, using(crate::proofs::LibraryNames::bound_once))]
-fn bind_library(
-    alloc: Global,
-    file: &mut FileScope,
-    x: &Spelling,
-    from: u32,
-    which: LibraryFunction,
-) -> Result<(), Fault>
-    ensures { Files result (library_bound (file_of file.old) x.now from which) file.new }
-{
-    once(alloc, x, place_of_other(file, x.text.as_slice()))?;
-    bind(
-        alloc,
-        file,
-        x,
-        from,
-        How::Declares,
-        Entity::LibraryFunction(which),
-    )?;
-    Ok(())
-}
-
-/// A function of the library, under its own name and type.
 fn declare_library(
-    alloc: Global,
     file: &mut FileScope,
-    words: Storage,
-    x: &Spelling,
-    from: u32,
+    it: Named,
     t: &Ty,
     which: LibraryFunction,
 ) -> Result<(), Fault>
-    ensures { Files result (declare_library_in (file_of file.old) (storage_view words) x.now from (type_of t.now) which) file.new }
+    ensures { Files result (declare_library_in (file_of file.old) (storage_view it.entry.words) it.entry.x.now it.entry.from (type_of t.now) which) file.new }
 {
-    if is_library_type(t, which) && links(words) {
-        bind_library(alloc, file, x, from, which)
-    } else {
-        Err(Fault::IllTyped(Rule::Library, x.from))
+    if !is_library_type(t, which) || !links(it.words) {
+        return Err(Fault::IllTyped(Rule::Library, it.x.from));
     }
-}
-
-/// A function that is none of the library.
-fn declare_own(
-    alloc: Global,
-    file: &mut FileScope,
-    words: Storage,
-    x: &Spelling,
-    place: u32,
-    from: u32,
-    t: &Ty,
-    nodes: u64,
-) -> Result<(), Fault>
-    ensures { Files result (declare_own_in (file_of file.old) (storage_view words) x.now place from (type_of t.now) nodes) file.new }
-{
-    main_function(x.text.as_slice(), x.from, t)?;
-    let n = function_of(alloc, file, words, x, place, t, nodes)?;
-    let entity = Entity::Function(n, copy(alloc, t)?);
-    bind(alloc, file, x, from, How::Declares, entity)?;
+    once(file.alloc, it.x, place_of_other(file, it.x.text.as_slice()))?;
+    let entity = Entity::LibraryFunction(which);
+    bind(file, it.x, it.from, How::Declares, entity)?;
     Ok(())
 }
 
-/// A function of that type, which stands at `place`, and whose name is in scope from `from` on.
-pub fn declare_function(
-    alloc: Global,
-    file: &mut FileScope,
-    words: Storage,
-    x: &Spelling,
-    place: u32,
-    from: u32,
-    t: &Ty,
-    nodes: u64,
-) -> Result<(), Fault>
+/// A function of that type.
+pub fn declare_function(file: &mut FileScope, it: Named, t: &Ty) -> Result<(), Fault>
     ensures { let f = file_of file.old in
-        Files result (declare_function_in f (storage_view words) x.now place from (type_of t.now) nodes (library_named_in x.now.text)) file.new }
+        Files result (declare_function_in f (storage_view it.entry.words) it.entry.x.now it.entry.place it.entry.from (type_of t.now) it.entry.nodes
+        (library_named_in it.entry.x.now.text)) file.new }
 {
-    match library_named(x.text.as_slice()) {
-        None => declare_own(alloc, file, words, x, place, from, t, nodes),
-        Some(which) => declare_library(alloc, file, words, x, from, t, which),
+    if let Some(which) = library_named(it.x.text.as_slice()) {
+        return declare_library(file, it, t, which);
     }
+    main_function(it.x.text.as_slice(), it.x.from, t)?;
+    let n = function_of(file, it, t)?;
+    let entity = Entity::Function(n, copy(file.alloc, t)?);
+    bind(file, it.x, it.from, How::Declares, entity)?;
+    Ok(())
 }
 
 /// The number of the function of that type and name, which is defined here.
-pub fn bind_function(
-    alloc: Global,
-    file: &mut FileScope,
-    words: Storage,
-    x: &Spelling,
-    place: u32,
-    left: u32,
-    nodes: u64,
-    t: &Ty,
-) -> Result<usize, Fault>
-    ensures { Finds (λ n. n) result (function_bound (file_of file.old) (storage_view words) x.now place left nodes (type_of t.now)) file.new }
+pub fn bind_function(file: &mut FileScope, it: Named, t: &Ty) -> Result<usize, Fault>
+    ensures { Finds (λ n. n) result
+        (function_bound (file_of file.old) (storage_view it.entry.words) it.entry.x.now it.entry.place it.entry.from it.entry.nodes (type_of t.now)) file.new }
 {
-    own_name(x.from, library_named(x.text.as_slice()))?;
-    main_function(x.text.as_slice(), x.from, t)?;
-    let defined = place_of_definition(file, x.text.as_slice());
-    let n = function_of(alloc, file, words, x, place, t, nodes)?;
-    once(alloc, x, defined)?;
-    let entity = Entity::Function(n, copy(alloc, t)?);
-    bind(alloc, file, x, left, How::Defines, entity)?;
+    own_name(it.x.from, library_named(it.x.text.as_slice()))?;
+    main_function(it.x.text.as_slice(), it.x.from, t)?;
+    let defined = place_of_definition(file, it.x.text.as_slice());
+    let n = function_of(file, it, t)?;
+    once(file.alloc, it.x, defined)?;
+    let entity = Entity::Function(n, copy(file.alloc, t)?);
+    bind(file, it.x, it.from, How::Defines, entity)?;
     Ok(n)
 }
 

@@ -16,7 +16,7 @@ mod parameters;
 mod settling;
 
 pub use functions::{bind_function, declare_function, define_function};
-pub use names::{at_file_scope, bind, library_named, once, own_name, place_of};
+pub use names::{Named, at_file_scope, bind, library_named, once, own_name, place_of};
 pub use objects::{bind_object, define_object};
 pub use parameters::{Received, parameters_of, receive};
 pub use settling::closed;

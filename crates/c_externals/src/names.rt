@@ -17,12 +17,27 @@ ghost use Rattle.c_scopes.specs.Scoping.{file_of, scope_of};
 use crate::library::{Simple, is_signature};
 use c_annotated::{Bound, Entity, How};
 use c_ast::Spelling;
-use c_nodes::{Fault, name};
+use c_nodes::{Fault, Storage, name};
 use c_scopes::{FileScope, Purpose, Scope};
 use c_typed::LibraryFunction;
 use c_types::Ty;
 use lay_base::{NoMemory, Rule};
 use std::alloc::Global;
+
+/// A name that a declarator of the file scope declares.
+#[derive(Clone, Copy)]
+pub struct Named<'a> {
+    pub words: Storage,
+    pub x: &'a Spelling,
+    /// How many types the file has spoken of before the declarator.
+    pub before: usize,
+    /// Where the declarator begins.
+    pub place: u32,
+    /// From where on the name is in scope.
+    pub from: u32,
+    /// How many nodes the item has.
+    pub nodes: u64,
+}
 
 /// The function of the library with that name, from `memset` on in the order of the list.
 fn later_named(x: &[u8]) -> Option<LibraryFunction>
@@ -168,7 +183,6 @@ pub fn place_of_definition(file: &FileScope, x: &[u8]) -> Option<u32>
 
 /// Binds a name in the file, from that byte on.
 pub fn bind(
-    alloc: Global,
     file: &mut FileScope,
     x: &Spelling,
     from: u32,
@@ -178,11 +192,11 @@ pub fn bind(
     ensures { OnOk result (file_of file.new ≡ with_bound (file_of file.old) (bound_in x.now from (how_of how) (entity_of entity))) }
 {
     let b = Bound {
-        name: name(alloc, x.text.as_slice())?,
+        name: name(file.alloc, x.text.as_slice())?,
         place: x.from,
         from,
         how,
         entity,
     };
-    file.names.add(alloc, b)
+    file.names.add(file.alloc, b)
 }

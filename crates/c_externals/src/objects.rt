@@ -17,9 +17,9 @@ ghost use Rattle.c_nodes.specs.DeclaratorTypes.SpecifierViews.{storage_view};
 ghost use Rattle.c_nodes.specs.Gives.{Gives};
 ghost use Rattle.c_scopes.specs.Scoping.{file_of};
 
-use crate::names::{bind, library_named, main_object, once, own_name, place_of_definition};
+use crate::names::{Named, bind, library_named, main_object, once, own_name, place_of_definition};
 use c_annotated::{Bound, Entity, How, Initializer, Object};
-use c_ast::{InitialValue, Spelling};
+use c_ast::InitialValue;
 use c_nodes::{Fault, Storage, name};
 use c_scopes::FileScope;
 use c_types::{Ty, copy, same};
@@ -56,47 +56,38 @@ fn linked_before(file: &FileScope, n: usize) -> bool
 }
 
 /// The object for which a name stands already.
-fn known_object(
-    alloc: Global,
-    file: &FileScope,
-    words: Storage,
-    x: &Spelling,
-    t: &Ty,
-    old: &Bound,
-) -> Result<usize, Fault>
+fn known_object(file: &FileScope, it: Named, t: &Ty, old: &Bound) -> Result<usize, Fault>
     ensures { Gives (λ n. (n, file_of file.now)) result
-        (known_object_in (file_of file.now) (storage_view words) x.now (type_of t.now) (bound_of old.now) (entity_of old.now.entity)) }
+        (known_object_in (file_of file.now) (storage_view it.entry.words) it.entry.x.now (type_of t.now) (bound_of old.now) (entity_of old.now.entity)) }
 {
     match &old.entity {
-        Entity::Object(n, u) if same(u, t) && linkage_agrees(words, linked_before(file, *n)) => {
+        Entity::Object(n, u) if same(u, t) && linkage_agrees(it.words, linked_before(file, *n)) => {
             Ok(*n)
         }
-        _ => Err(Fault::Redeclared(name(alloc, x.text.as_slice())?, x.from, old.place)),
+        _ => Err(Fault::Redeclared(
+            name(file.alloc, it.x.text.as_slice())?,
+            it.x.from,
+            old.place,
+        )),
     }
 }
 
 /// A new object, of which no more is known than its declaration.
-fn add_object(
-    alloc: Global,
-    file: &mut FileScope,
-    words: Storage,
-    x: &Spelling,
-    place: u32,
-    t: &Ty,
-) -> Result<usize, NoMemory>
+fn add_object(file: &mut FileScope, it: Named, t: &Ty) -> Result<usize, NoMemory>
     ensures number { IfOk result (λ n. n ≡ length file.old.objects) }
-    ensures added { OnOk result (file_of file.new ≡ with_new_object (file_of file.old) (new_object (file_of file.old) (storage_view words) x.now place (type_of t.now))) }
+    ensures added { OnOk result (file_of file.new
+        ≡ with_new_object (file_of file.old) (new_object (file_of file.old) (storage_view it.entry.words) it.entry.x.now it.entry.place (type_of t.now))) }
 {
     let n = file.objects.len();
     let o = Object {
-        name: name(alloc, x.text.as_slice())?,
+        name: name(file.alloc, it.x.text.as_slice())?,
         place: Place {
             file: file.number,
-            at: place,
+            at: it.place,
         },
-        first: place,
-        ty: copy(alloc, t)?,
-        is_linked: links(words),
+        first: it.place,
+        ty: copy(file.alloc, t)?,
+        is_linked: links(it.words),
         literal: None,
         initial: None,
     };
@@ -104,24 +95,18 @@ fn add_object(
     Ok(n)
 }
 
-/// The number of the object that a declaration declares, which stands at `place`.
+/// The number of the object that a declaration declares.
 #[tactic(auto, unfolding(c_erasure::specs::Checking::Files::object_of))]
-fn object_of(
-    alloc: Global,
-    file: &mut FileScope,
-    words: Storage,
-    x: &Spelling,
-    place: u32,
-    t: &Ty,
-) -> Result<usize, Fault>
+fn object_of(file: &mut FileScope, it: Named, t: &Ty) -> Result<usize, Fault>
     ensures { let f = file_of file.old in
-        Finds (λ n. n) result (object_of_in f (storage_view words) x.now place (type_of t.now) (declared_among f.names x.now.text)) file.new }
+        Finds (λ n. n) result (object_of_in f (storage_view it.entry.words) it.entry.x.now it.entry.place (type_of t.now)
+        (declared_among f.names it.entry.x.now.text)) file.new }
 {
-    match file.names.first(x.text.as_slice()) {
-        Some(old) => known_object(alloc, file, words, x, t, old),
+    match file.names.first(it.x.text.as_slice()) {
+        Some(old) => known_object(file, it, t, old),
         None => {
-            main_object(x.text.as_slice(), x.from, links(words))?;
-            Ok(add_object(alloc, file, words, x, place, t)?)
+            main_object(it.x.text.as_slice(), it.x.from, links(it.words))?;
+            Ok(add_object(file, it, t)?)
         }
     }
 }
@@ -165,27 +150,25 @@ fn object_how(words: Storage, value: &Option<InitialValue>) -> How
     }
 }
 
-/// The number of an object of that type, which stands at `place`, and whose name is in scope from `from` on. Its initializer is read later.
+/// The number of an object of that type. Its initializer is read later.
 pub fn bind_object(
-    alloc: Global,
     value: &Option<InitialValue>,
     file: &mut FileScope,
-    words: Storage,
-    x: &Spelling,
-    place: u32,
-    from: u32,
+    it: Named,
     t: &Ty,
 ) -> Result<usize, Fault>
-    ensures { Finds (λ n. n) result (object_bound (file_of file.old) (storage_view words) x.now place from (type_of t.now) (option_map value_of value.now)) file.new }
+    ensures { Finds (λ n. n) result
+        (object_bound (file_of file.old) (storage_view it.entry.words) it.entry.x.now it.entry.place it.entry.from (type_of t.now)
+        (option_map value_of value.now)) file.new }
 {
-    own_name(x.from, library_named(x.text.as_slice()))?;
+    own_name(it.x.from, library_named(it.x.text.as_slice()))?;
     let defined = match value {
-        Some(_) => place_of_definition(file, x.text.as_slice()),
+        Some(_) => place_of_definition(file, it.x.text.as_slice()),
         None => None,
     };
-    let n = object_of(alloc, file, words, x, place, t)?;
-    once(alloc, x, defined)?;
-    let entity = Entity::Object(n, copy(alloc, t)?);
-    bind(alloc, file, x, from, object_how(words, value), entity)?;
+    let n = object_of(file, it, t)?;
+    once(file.alloc, it.x, defined)?;
+    let entity = Entity::Object(n, copy(file.alloc, t)?);
+    bind(file, it.x, it.from, object_how(it.words, value), entity)?;
     Ok(n)
 }

@@ -10,6 +10,7 @@ use c_annotated::{Bound, Entity, How, Initializer, Object};
 use c_scopes::FileScope;
 use lay_base::{List, NoMemory, add, push};
 use std::alloc::Global;
+use std::mem::replace;
 
 /// Marks the object that a tentative definition declares.
 fn mark(marks: &mut Vec<bool>, b: &Bound)
@@ -89,27 +90,11 @@ fn all_settled(
 
 /// A file at its end.
 #[tactic(auto, using(crate::proofs::Marks::all_settled_by_marks))]
-pub fn closed(alloc: Global, file: FileScope) -> Result<FileScope, NoMemory>
+pub fn closed(mut file: FileScope) -> Result<FileScope, NoMemory>
     ensures { IfOk result (λ f. file_of f ≡ closed_file (file_of file)) }
 {
-    let FileScope {
-        number,
-        names,
-        tags,
-        records,
-        objects,
-        functions,
-        mentions,
-    } = file;
-    let marks = marks_of(alloc, names.as_slice(), objects.len())?;
-    let objects = all_settled(alloc, objects, marks.as_slice())?;
-    Ok(FileScope {
-        number,
-        names,
-        tags,
-        records,
-        objects,
-        functions,
-        mentions,
-    })
+    let marks = marks_of(file.alloc, file.names.as_slice(), file.objects.len())?;
+    let objects = replace(&mut file.objects, List::new(file.alloc));
+    file.objects = all_settled(file.alloc, objects, marks.as_slice())?;
+    Ok(file)
 }

@@ -19,7 +19,9 @@ pub use declarator_types::{
     typedef_named, variable,
 };
 pub use fault::Fault;
-pub use making::{convert, convert_to_kind, misplaced, node, object_value, pointer_to, way, worth};
+pub use making::{
+    Start, Value, convert, convert_to_kind, misplaced, node, object_value, pointer_to, way, worth,
+};
 pub use operator_nodes::{
     BinaryKind, Signature, Subscripted, SwitchValue, Target, address, argument, array_of, arrow,
     assigned, binary, call, cast, chosen, comma, condition, copied, deref, dot, element, index,

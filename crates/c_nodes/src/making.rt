@@ -17,13 +17,22 @@ use c_types::{IntKind, Ty, copy, same};
 use lay_base::{Boxed, NoMemory, Place, Rule, boxed, shared};
 use std::alloc::Global;
 
+/// An expression that has a value.
+pub type Value = Boxed<Expression>;
+
+/// Where a node begins.
+#[derive(Clone, Copy)]
+pub struct Start {
+    /// Where there is memory for the node.
+    pub alloc: Global,
+    pub at: u32,
+    pub place: Place,
+    /// How many records are complete there.
+    pub count: usize,
+}
+
 /// A value of a type.
-pub fn value(
-    alloc: Global,
-    ty: Ty,
-    place: Place,
-    node: ExpressionNode,
-) -> Result<Boxed<Expression>, Fault>
+pub fn value(alloc: Global, ty: Ty, place: Place, node: ExpressionNode) -> Result<Value, Fault>
     ensures { Gives (λ e. a_value (expression_of e)) result (a_node (type_of ty) place (node_of node)) }
 {
     Ok(boxed(
@@ -59,7 +68,7 @@ pub fn pointer_to(alloc: Global, t: Ty) -> Result<Ty, NoMemory>
 }
 
 /// A value as one of a type, converted where it has another.
-pub fn convert(alloc: Global, t: &Ty, x: Boxed<Expression>) -> Result<Boxed<Expression>, NoMemory>
+pub fn convert(alloc: Global, t: &Ty, x: Value) -> Result<Value, NoMemory>
     ensures { IfOk result (λ e. expression_of e ≡ converted (type_of t.now) (expression_of x)) }
 {
     if same(&x.get().ty, t) {
@@ -79,11 +88,7 @@ pub fn convert(alloc: Global, t: &Ty, x: Boxed<Expression>) -> Result<Boxed<Expr
 }
 
 /// A value as one of an integer type, converted where it has another type.
-pub fn convert_to_kind(
-    alloc: Global,
-    kind: IntKind,
-    x: Boxed<Expression>,
-) -> Result<Boxed<Expression>, NoMemory>
+pub fn convert_to_kind(alloc: Global, kind: IntKind, x: Value) -> Result<Value, NoMemory>
     ensures { IfOk result (λ e. expression_of e ≡ converted (integer kind) (expression_of x)) }
 {
     let t = Ty::Int(kind);
@@ -92,7 +97,7 @@ pub fn convert_to_kind(
 
 /// The value of an object: a number or a pointer is loaded, an array becomes a pointer to its first element (C99 6.3.2.1). Other objects have
 /// none.
-pub fn object_value(alloc: Global, p: Boxed<Path>) -> Result<Option<Boxed<Expression>>, NoMemory>
+pub fn object_value(alloc: Global, p: Boxed<Path>) -> Result<Option<Value>, NoMemory>
     ensures { IfOk result (λ o. option_map expression_of o ≡ value_of (an_object (path_of p))) }
 {
     let place = p.get().place;
@@ -120,7 +125,7 @@ pub fn object_value(alloc: Global, p: Boxed<Path>) -> Result<Option<Boxed<Expres
 
 /// The value of what stands there, which begins at `at` (C99 6.3.2.1).
 #[tactic(auto, unfolding(c_erasure::specs::Checking::Nodes::worth))]
-pub fn worth(alloc: Global, at: u32, thing: Thing) -> Result<Boxed<Expression>, Fault>
+pub fn worth(alloc: Global, at: u32, thing: Thing) -> Result<Value, Fault>
     ensures { Gives expression_of result (worth_of at (thing_of thing)) }
 {
     match thing {

@@ -1,6 +1,6 @@
 -- Lists of which each item is changed where it stands, one after another.
-use Rattle.std.proofs.Common.{◌≡◌, ◌≤◌, ◌<◌, ℕ, ◌+◌, List, [], ◌∷◌, ◌++◌, drop, get_or, length, map, set, take, refl, ap, sym, ◌∙◌}
-use Rattle.std.proofs.lemmas.List.{get_or-map, map-set, take_all, take_at}
+use Rattle.std.proofs.Common.{◌≡◌, ◌≤◌, ◌<◌, ℕ, zero, suc, ◌+◌, List, [], ◌∷◌, ◌++◌, append_assoc, drop, flat_map, get_or, length, map, set, take, refl, ap, sym, ◌∙◌, arith}
+use Rattle.std.proofs.lemmas.List.{drop_more, get_or-map, map-set, take_all, take_at}
 use Rattle.std.proofs.lemmas.List.Edits.{map_over_more}
 use Rattle.c_erasure.specs.Recognised.{recognised, recognised_all}
 use Rattle.c_erasure.specs.Units.{recognised_arms, recognised_statement, recognised_statements}
@@ -48,6 +48,24 @@ one_more view f before all i d x h k e o =
     let old = view (get_or all i d) in
     map-set view all i x ∙ ap (set (map view all) i) o
     ∙ map_over_more f before (map view all) i old h e (sym (get_or-map view all i d old k))
+
+beyond : {Y : Type 0} (f : Y → Y) (before : List Y) (i : ℕ) (y : Y) → i < length before → get_or (map f (take i before) ++ drop i before) i y ≡ get_or before i y
+beyond f [] i y h = absurd (omega (arith, h))
+beyond f (x ∷ more) zero y h = refl
+beyond f (x ∷ more) (suc i) y h = beyond f more i y (omega (arith, h))
+
+-- and one more item is looked into, before it is changed
+pub one_more_place : {X Y : Type 0} (view : X → Y) (f : Y → Y) (part : Y → List ℕ) (before : List Y) (all : List X) (i : ℕ) (d : X) (places after start : List ℕ)
+    → i < length before → i < length all → map view all ≡ map f (take i before) ++ drop i before → after ≡ places ++ part (view (get_or all i d))
+    → places ++ flat_map part (drop i before) ≡ start ++ flat_map part before
+    → after ++ flat_map part (drop (i + 1) before) ≡ start ++ flat_map part before
+one_more_place view f part before all i d places after start h k e a o =
+    let old = view (get_or all i d) in
+    let rest = flat_map part (drop (i + 1) before) in
+    let same : get_or before i old ≡ old =
+    sym (beyond f before i old h) ∙ ap (λ them. get_or them i old) (sym e) ∙ get_or-map view all i d old k in
+    ap (λ them. them ++ rest) a ∙ append_assoc places (part old) rest
+    ∙ ap (λ them. places ++ them) (ap (λ y. part y ++ rest) (sym same) ∙ ap (flat_map part) (sym (drop_more before i old h))) ∙ o
 
 -- all items are changed
 pub ended : {X Y : Type 0} (view g : X → Y) (all before items old : List X) (i n : ℕ) → length all ≡ length before → before ≡ items → items ≡ old

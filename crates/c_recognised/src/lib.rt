@@ -8,11 +8,9 @@
 mod allocations;
 mod expressions;
 mod initializers;
-mod operand_walks;
 mod operands;
 mod sizes;
 mod statements;
 
 pub use initializers::optional_initializer;
-pub use operand_walks::operands_in_statement;
-pub use statements::{optional_statement, recognise_statement};
+pub use statements::recognise_statement;

@@ -1,6 +1,5 @@
 pub mod Tables
 pub mod Alike
-pub mod Locals
 pub mod Whole
 pub mod Nodes
 pub mod Agreeing

@@ -1,11 +1,12 @@
 -- Functions are numbered one after the other, since types that are added later change no number of those that are there.
-use Rattle.std.proofs.Common.{◌≡◌, Vec, ℕ, ◌+◌, ◌<◌, Bool, true, false, ◌||◌, List, [], ◌∷◌, ◌++◌, length, map, flat_map, fold, refl, sym, ap, ◌∙◌, arith}
-use Rattle.std.proofs.Common.{rules}
-use Rattle.std.specs.Prelude.{Option, Some, None, if◌then◌else◌}
+use Rattle.std.proofs.Common.{◌≡◌, Vec, ℕ, ◌+◌, ◌<◌, Bool, true, false, ◌||◌, List, [], ◌∷◌, ◌++◌, drop, get_or, length, map, flat_map, fold, refl, sym, ap, ◌∙◌, arith}
+use Rattle.std.proofs.Common.{append_assoc, rules}
+use Rattle.std.specs.Prelude.{Option, Some, None, if◌then◌else◌, not, ◌&&◌}
 use Rattle.std.specs.List.{list_any, AllByRecursion}
 use Rattle.std.specs.Option.{option_map}
-use Rattle.std.proofs.lemmas.List.{append-nil, map-append}
+use Rattle.std.proofs.lemmas.List.{append-nil, drop_more, map-append}
 use Rattle.std.proofs.lemmas.List.Concat.{flat_map-append}
+use Rattle.std.proofs.lemmas.List.Elements.{filter-append}
 use Rattle.std.proofs.lemmas.List.Sums.{fold-append}
 use Rattle.c_types.proofs.SameTypes.{same_is, same_self}
 use Rattle.c_types.specs.Sameness.{same_type}
@@ -14,14 +15,18 @@ use Rattle.c_numbers.specs.TypeNumbers.Adding.{with_type}
 use Rattle.c_typed.specs.Mapped.{mapped_statement, of_types}
 use Rattle.c_typed.specs.Trees as Trees
 use Rattle.c_typed.specs.Walk.{types_in_statement}
+use Rattle.c_typed.specs.declared.program.Mention.{Mention}
+use Rattle.c_typed.specs.declared.program.Object.{Object}
 use Rattle.c_erasure.specs.Noted.{Noted}
 use Rattle.c_erasure.specs.Scopes.{AFunction, ALocal, AMention}
-use Rattle.c_erasure.specs.Units.{if_any, is_among, new_among, number_in}
+use Rattle.c_erasure.specs.Units.{if_any, is_among, is_sizeof, new_among, number_in}
 use Rattle.c_numbers.proofs.TypeNumbers.Laws.{all_new}
 use Rattle.c_typed.specs.Programs.{FunctionData}
-use Rattle.c_units.specs.CollectedTypes.{all_types, function_types, object_types}
-use Rattle.c_units.specs.NumberedParts.{function_in, locals_in, taken_in}
-use Rattle.c_units.specs.UnitWith.{given, given_with}
+use Rattle.c_units.specs.CollectedTypes.{all_types, function_types, given_types, object_types}
+use Rattle.c_units.specs.NumberedParts.{function_in, locals_in, mention_in, object_in, taken_in}
+use Rattle.c_units.specs.RecognisedParts.{recognised_function}
+use Rattle.c_units.specs.SizeOperands.{given_mentions, is_operand, kept, kept_types, operands_in, operands_of}
+use Rattle.c_units.specs.UnitWith.{GivenParts, given, numbered}
 use Rattle.c_units.specs.ValuedObjects.{ValuedObject}
 use Rattle.c_units.proofs.Agreeing.{apart, of_statement}
 
@@ -29,9 +34,9 @@ use Rattle.c_units.proofs.Agreeing.{apart, of_statement}
 abbrev IsThere : List CType → CType → Type 0
 IsThere types t = number_in types t < length types
 
-kept : (a b : List CType) (t : CType) → IsThere a t → number_in (a ++ b) t ≡ number_in a t
-kept [] b t h = absurd (omega (arith, h))
-kept (s ∷ more) b t h = go (same_type s t) h (λ k. kept more b t k)
+same_number : (a b : List CType) (t : CType) → IsThere a t → number_in (a ++ b) t ≡ number_in a t
+same_number [] b t h = absurd (omega (arith, h))
+same_number (s ∷ more) b t h = go (same_type s t) h (λ k. same_number more b t k)
   where
     go : (c : Bool) → (if c then 0 else number_in more t + 1) < length (s ∷ more)
         → (number_in more t < length more → number_in (more ++ b) t ≡ number_in more t)
@@ -74,7 +79,7 @@ one_kept types s t h = go (list_any (same_type s) types)
   where
     go : (b : Bool) → number_in (if b then types else types ++ s ∷ []) t ≡ number_in types t
     go true = refl
-    go false = kept types (s ∷ []) t h
+    go false = same_number types (s ∷ []) t h
 
 one_stays : (types : List CType) (s t : CType) → IsThere types t → IsThere (with_type types s) t
 one_stays types s t h = go (list_any (same_type s) types)
@@ -177,20 +182,116 @@ one_more_function before after some g done d k h e later =
     ∙ ap (λ one. map (function_in (fold with_type after later)) some ++ one ∷ []) (e later)
     ∙ sym (map-append (function_in (fold with_type after later)) some (g ∷ []))
 
+-- ---- types, places and mentions that are added one after the other
+
+pub more_types : (types one more : List CType) → fold with_type types (one ++ more) ≡ fold with_type (fold with_type types one) more
+more_types types one more = fold-append with_type types one more
+
+pub more_places : (start before after : List ℕ) (some : List AFunction) (g : AFunction) → before ≡ start ++ operands_of some → after ≡ before ++ operands_in g
+    → after ≡ start ++ operands_of (some ++ g ∷ [])
+more_places start before after some g h k =
+    k ∙ ap (λ them. them ++ operands_in g) h ∙ append_assoc start (operands_of some) (operands_in g)
+    ∙ ap (λ them. start ++ them) (ap (λ them. operands_of some ++ them) (sym (append-nil (operands_in g))) ∙ sym (flat_map-append operands_in some (g ∷ [])))
+
+-- the number of a type that is added stays
+pub mention_stays : (types later : List CType) (t : CType) → number_in (with_type types t) t ≡ number_in (fold with_type (with_type types t) later) t
+mention_stays types later t = sym (all_kept (with_type types t) later t (added types t))
+
+pub next_item : {X : Type 0} (all : List X) (i : ℕ) (x : X) → i < length all → x ≡ get_or all i x → drop i all ≡ x ∷ drop (i + 1) all
+next_item all i x within e = drop_more all i x within ∙ ap (λ z. z ∷ drop (i + 1) all) (sym e)
+
+module _ (is_size : ℕ → Bool) (file : ℕ) where
+  split : (m : AMention) (rest : List AMention) → kept is_size (m ∷ rest) ≡ kept is_size (m ∷ []) ++ kept is_size rest
+  split m rest = filter-append (λ m. not (is_operand is_size m)) (m ∷ []) rest
+
+  split_types : (m : AMention) (rest : List AMention) → kept_types is_size (m ∷ rest) ≡ kept_types is_size (m ∷ []) ++ kept_types is_size rest
+  split_types m rest = ap (map (λ (m : AMention). m.ty)) (split m rest) ∙ map-append (λ (m : AMention). m.ty) (kept is_size (m ∷ [])) (kept is_size rest)
+
+  pub one_more_type : (before after types : List CType) (m : AMention) (rest left : List AMention) → left ≡ m ∷ rest
+      → after ≡ fold with_type before (kept_types is_size (m ∷ [])) → fold with_type before (kept_types is_size left) ≡ types
+      → fold with_type after (kept_types is_size rest) ≡ types
+  one_more_type before after types m rest left l a h =
+      ap (λ them. fold with_type them (kept_types is_size rest)) a
+      ∙ sym (more_types before (kept_types is_size (m ∷ [])) (kept_types is_size rest))
+      ∙ ap (fold with_type before) (sym (split_types m rest))
+      ∙ ap (λ them. fold with_type before (kept_types is_size them)) (sym l) ∙ h
+
+  pub one_more_mention : (after types : List CType) (m : AMention) (rest left : List AMention) (found done whole : List Mention) → left ≡ m ∷ rest
+      → fold with_type after (kept_types is_size rest) ≡ types
+      → ((later : List CType) → done ≡ found ++ map (mention_in (fold with_type after later) file) (kept is_size (m ∷ [])))
+      → (later : List CType) → found ++ map (mention_in (fold with_type types later) file) (kept is_size left) ≡ whole
+      → done ++ map (mention_in (fold with_type types later) file) (kept is_size rest) ≡ whole
+  one_more_mention after types m rest left found done whole l t d later h =
+      let each = mention_in (fold with_type types later) file in
+      let all : fold with_type after (kept_types is_size rest ++ later) ≡ fold with_type types later =
+      more_types after (kept_types is_size rest) later ∙ ap (λ them. fold with_type them later) t in
+      ap (λ them. them ++ map each (kept is_size rest)) (d (kept_types is_size rest ++ later)
+      ∙ ap (λ them. found ++ map (mention_in them file) (kept is_size (m ∷ []))) all)
+      ∙ append_assoc found (map each (kept is_size (m ∷ []))) (map each (kept is_size rest))
+      ∙ ap (λ them. found ++ them) (sym (map-append each (kept is_size (m ∷ [])) (kept is_size rest)) ∙ ap (map each) (sym (split m rest) ∙ ap (kept is_size) (sym l)))
+      ∙ h
+
+-- ---- functions and mentions
+
+none_is : (b : Bool) → not (b && false) ≡ true
+none_is true = refl
+none_is false = refl
+
+kept_none : (all : List AMention) → kept (is_among []) all ≡ all
+kept_none [] = refl
+kept_none (m ∷ more) = ap (λ b. if b then m ∷ kept (is_among []) more else kept (is_among []) more) (none_is (is_sizeof m.kind)) ∙ ap (λ them. m ∷ them) (kept_none more)
+
+module _ (first second third last : List CType) (fs : List AFunction) (ms others : List AMention) (is_size none : ℕ → Bool)
+    (s : is_size ≡ is_among (operands_of fs)) (n : none ≡ is_among []) (t : third ≡ fold with_type second (kept_types is_size ms))
+    (e : last ≡ fold with_type third (kept_types none others)) where
+  pub types_given : second ≡ fold with_type first (flat_map function_types (map recognised_function fs)) → last ≡ fold with_type first (given_types fs ms others)
+  types_given h =
+      let is = is_among (operands_of fs) in
+      let each = map (λ (m : AMention). m.ty) in
+      e ∙ ap (λ it. fold with_type third (kept_types it others)) n ∙ ap (λ them. fold with_type third (each them)) (kept_none others)
+      ∙ ap (λ them. fold with_type them (each others)) (t ∙ ap (λ it. fold with_type second (kept_types it ms)) s)
+      ∙ sym (more_types second (kept_types is ms) (each others))
+      ∙ ap (fold with_type second) (sym (map-append (λ (m : AMention). m.ty) (kept is ms) others))
+      ∙ ap (λ them. fold with_type them (each (given_mentions fs ms others))) h
+      ∙ sym (more_types first (flat_map function_types (map recognised_function fs)) (each (given_mentions fs ms others)))
+
+  pub functions_given : (gs : List AFunction) (done : List FunctionData) → ((later : List CType) → done ≡ map (function_in (fold with_type second later)) gs)
+      → done ≡ map (function_in last) gs
+  functions_given gs done d =
+      let one = kept_types is_size ms in
+      let more = kept_types none others in
+      d (one ++ more) ∙ ap (λ them. map (function_in them) gs) (more_types second one more ∙ ap (λ them. fold with_type them more) (sym t) ∙ sym e)
+
+  pub mentions_given : (file : ℕ) (start one two : List Mention) → start ≡ []
+      → ((later : List CType) → one ≡ start ++ map (mention_in (fold with_type third later) file) (kept is_size ms))
+      → ((later : List CType) → two ≡ one ++ map (mention_in (fold with_type last later) file) (kept none others))
+      → two ≡ map (mention_in last file) (given_mentions fs ms others)
+  mentions_given file start one two z a b =
+      let each = mention_in last file in
+      b [] ∙ ap (λ it. one ++ map each (kept it others)) n ∙ ap (λ them. one ++ map each them) (kept_none others)
+      ∙ ap (λ them. them ++ map each others) (a (kept_types none others)
+      ∙ ap (λ them. start ++ map (mention_in them file) (kept is_size ms)) (sym e)
+      ∙ ap (λ them. them ++ map each (kept is_size ms)) z ∙ ap (λ it. map each (kept it ms)) s)
+      ∙ sym (map-append each (kept (is_among (operands_of fs)) ms) others)
+
 -- ---- what a file gives
 
-pub numbered_is : (file : ℕ) (os : List ValuedObject) (gs : List AFunction) (ms : List AMention) (first second all : List CType) (done : List FunctionData)
-    → first ≡ fold with_type [] (flat_map object_types os) → second ≡ fold with_type first (flat_map function_types gs)
-    → all ≡ fold with_type second (map (λ m. m.ty) ms) → ((later : List CType) → done ≡ map (function_in (fold with_type second later)) gs)
-    → given_with all file os done ms ≡ given file os gs ms
-numbered_is file os gs ms first second all done h k e numbered =
-    let objects = flat_map object_types os in
-    let functions = flat_map function_types gs in
-    let mentions = map (λ m. m.ty) ms in
-    let types : all ≡ new_among [] (all_types os gs ms) =
-    e ∙ ap (λ them. fold with_type them mentions) k ∙ ap (λ them. fold with_type (fold with_type them functions) mentions) h
-    ∙ sym (fold-append with_type (fold with_type [] objects) functions mentions)
-    ∙ sym (fold-append with_type [] objects (functions ++ mentions))
-    ∙ all_new (objects ++ (functions ++ mentions)) in
-    ap (λ them. given_with all file os them ms) (numbered mentions ∙ ap (λ them. map (function_in them) gs) (sym e))
-    ∙ ap (λ them. given_with them file os (map (function_in them) gs) ms) types
+abbrev made : List CType → List Object → List FunctionData → List Mention → GivenParts
+made types objects functions mentions = record { types = types; objects = objects; functions = functions; mentions = mentions }
+
+pub parts_are : (file : ℕ) (os : List ValuedObject) (fs : List AFunction) (ms others : List AMention) (none first last : List CType)
+    (objects : List Object) (functions : List FunctionData) (mentions : List Mention) → none ≡ []
+    → first ≡ fold with_type none (flat_map object_types os) → last ≡ fold with_type first (given_types fs ms others)
+    → objects ≡ map (object_in last) os → functions ≡ map (function_in last) (map recognised_function fs)
+    → mentions ≡ map (mention_in last file) (given_mentions fs ms others)
+    → made last objects functions mentions ≡ given file os (map recognised_function fs) (given_mentions fs ms others)
+parts_are file os fs ms others none first last objects functions mentions z h l o g m =
+    let gs = map recognised_function fs in
+    let gm = given_mentions fs ms others in
+    let types : last ≡ new_among [] (all_types os gs gm) =
+    l ∙ ap (λ them. fold with_type them (given_types fs ms others)) (h ∙ ap (λ them. fold with_type them (flat_map object_types os)) z)
+    ∙ sym (more_types [] (flat_map object_types os) (given_types fs ms others)) ∙ all_new (all_types os gs gm) in
+    ap (λ it. made last it functions mentions) o
+    ∙ ap (λ it. made last (map (object_in last) os) it mentions) g
+    ∙ ap (λ it. made last (map (object_in last) os) (map (function_in last) gs) it) m
+    ∙ ap (λ them. numbered them file os gs gm) types

@@ -1,10 +1,13 @@
 -- The parts of a unit, made stage by stage, are those of the definition.
-use Rattle.std.proofs.Common.{◌≡◌, ℕ, ◌+◌, Bool, List, [], ◌∷◌, ◌++◌, length, map, refl, sym, ap, ◌∙◌, append_assoc}
+use Rattle.std.proofs.Common.{◌≡◌, ℕ, ◌+◌, List, [], ◌∷◌, ◌++◌, length, map, refl, sym, ap, ◌∙◌, append_assoc}
 use Rattle.std.specs.Prelude.{drop, flat_map, Option, Some, None, is_some}
 use Rattle.std.specs.Option.{option_map}
 use Rattle.std.proofs.lemmas.List.{append-nil, map-append}
 use Rattle.std.proofs.lemmas.List.Concat.{flat_map-append}
 use Rattle.c_types.specs.Types.{CType}
+use Rattle.c_types.specs.Views.{type_of}
+use Rattle.c_annotated.specs.FileViews.{object_of}
+use Rattle.c_annotated.specs.declared.file.Object.{Object as FileObject}
 use Rattle.c_typed.specs.Addressed.{addressed_by_statement}
 use Rattle.c_typed.specs.InitialValues.{a_number, a_null, an_address, a_function}
 use Rattle.c_typed.specs.Mapped.{mapped_initializer, mapped_statement, of_types}
@@ -18,10 +21,10 @@ use Rattle.c_erasure.specs.Noted.{Noted}
 use Rattle.c_erasure.specs.Scopes.{AFunction, ALocal, AMention, AnObject, FileScope}
 use Rattle.c_erasure.specs.SizeOperands.{operands_in_statement}
 use Rattle.c_erasure.specs.Units as U
-use Rattle.c_units.specs.CollectedTypes.{all_types, function_types, object_types}
+use Rattle.c_units.specs.CollectedTypes.{all_types, function_types, object_types, stored_types}
 use Rattle.c_units.specs.NumberedParts.{function_in, initial_in, locals_in, mention_in, object_in, taken_in}
 use Rattle.c_units.specs.RecognisedParts.{recognised_function, recognised_object}
-use Rattle.c_units.specs.SizeOperands.{kept, mentions_of, operands_of, told}
+use Rattle.c_units.specs.SizeOperands.{given_mentions, kept, mentions_of, operands_of, told}
 use Rattle.c_units.specs.UnitWith.{GivenParts, given, given_by, numbered, unit_with}
 use Rattle.c_units.specs.ValuedObjects.{ValuedObject, valued}
 
@@ -66,12 +69,6 @@ mentions_are f =
     ap (λ them. kept (U.is_among them) f.mentions ++ told (map recognised_object f.objects)) (operands_are f)
     ∙ ap (λ them. kept (U.is_among (U.size_operands f)) f.mentions ++ them) (told_is f.objects)
 
-pub mentions_left : (is_size : ℕ → Bool) (objects left : List AnObject) (functions : List AFunction) (all : List AMention)
-    → is_size ≡ U.is_among (operands_of functions) → left ≡ map recognised_object objects
-    → kept is_size all ++ told left ≡ mentions_of objects functions all
-mentions_left is_size objects left functions all s l =
-    ap (λ them. kept them all ++ told left) s ∙ ap (λ them. kept (U.is_among (operands_of functions)) all ++ told them) l
-
 -- ---- types
 
 abbrev valued_object : FileScope → AnObject → ValuedObject
@@ -81,13 +78,12 @@ object_types_are : (f : FileScope) (o : AnObject) → object_types (valued_objec
 object_types_are f o = go o.initial
   where
     go : (initial : Option (Trees.Initializer Noted))
-        → o.ty ∷ flat_map (flat_map U.type_if_pointer)
-        (U.if_any (option_map (λ i. U.of_initializer f (mapped_initializer (of_types (λ t. t.ty)) i)) (option_map U.recognised_initializer initial)))
+        → o.ty ∷ stored_types (option_map (λ i. U.of_initializer f (mapped_initializer (of_types (λ t. t.ty)) i)) (option_map U.recognised_initializer initial))
         ≡ o.ty ∷ flat_map U.type_if_pointer (flat_map (λ i. U.of_initializer f (U.typed_initializer i)) (U.if_any initial))
     go None = refl
     go (Some i) =
         let stores = U.of_initializer f (U.typed_initializer i) in
-        ap (λ them. o.ty ∷ them) (append-nil (flat_map U.type_if_pointer stores) ∙ ap (flat_map U.type_if_pointer) (sym (append-nil stores)))
+        ap (λ them. o.ty ∷ flat_map U.type_if_pointer them) (sym (append-nil stores))
 
 function_types_are : (g : AFunction) → function_types (recognised_function g) ≡ U.function_types g
 function_types_are g =
@@ -194,8 +190,10 @@ functions_are f types functions h k =
 types_stay : (all : List AnObject) → map (λ o. o.ty) (map recognised_object all) ≡ map (λ o. o.ty) all
 types_stay all = mapped_alike (λ (o : AnObject). o.ty) recognised_object (λ o. o.ty) (λ o. refl) all
 
-pub types_left : (all left : List AnObject) → left ≡ map recognised_object all → map (λ o. o.ty) all ≡ map (λ o. o.ty) left
-types_left all left h = sym (types_stay all) ∙ ap (map (λ (o : AnObject). o.ty)) (sym h)
+pub types_left : (all : List AnObject) (left : List FileObject) → map object_of left ≡ map recognised_object all → map (λ o. o.ty) all ≡ map (λ o. type_of o.ty) left
+types_left all left h =
+    sym (types_stay all) ∙ ap (map (λ (o : AnObject). o.ty)) (sym h)
+    ∙ mapped_alike (λ (o : AnObject). o.ty) object_of (λ (o : FileObject). type_of o.ty) (λ o. refl) left
 
 pub given_is : (f : FileScope) (file : ℕ) (left : List AnObject) (objects : List ValuedObject) (functions : List AFunction) (mentions : List AMention)
     → f.file ≡ file → left ≡ map recognised_object f.objects → objects ≡ map (valued (U.of_initializer f)) left
@@ -215,3 +213,9 @@ given_is f file left objects functions mentions n l v k e =
 pub unit_is : (nodes : ℕ) (f : FileScope) (given : GivenParts) (incomplete : List (List ℕ)) → given ≡ given_by f
     → incomplete ≡ drop (length f.records) f.numbered → made_unit nodes f given incomplete ≡ unit_with nodes f
 unit_is nodes f given incomplete g i = ap (λ it. made_unit nodes f it incomplete) g ∙ ap (made_unit nodes f (given_by f)) i
+
+pub mentions_given : (f : FileScope) (left : List AnObject) (functions : List AFunction) (all others : List AMention) → left ≡ map recognised_object f.objects
+    → f.functions ≡ functions → f.mentions ≡ all → others ≡ told left → given_mentions functions all others ≡ mentions_of f.objects f.functions f.mentions
+mentions_given f left functions all others l g m o =
+    ap (λ them. given_mentions them all others) (sym g) ∙ ap (λ them. given_mentions f.functions them others) (sym m)
+    ∙ ap (given_mentions f.functions f.mentions) (o ∙ ap told l)

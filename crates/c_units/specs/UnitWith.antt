@@ -1,8 +1,10 @@
 -- A unit whose tree has that number of nodes.
 use Rattle.std.specs.Prelude.{ℕ, List, [], drop, length, map}
 use Rattle.c_types.specs.Types.{CType}
+use Rattle.c_types.specs.declared.ty.Ty.{Ty}
 use Rattle.c_types.specs.Views.{type_of}
 use Rattle.c_typed.specs.Programs.{FunctionData, UnitData, data_of}
+use Rattle.c_typed.specs.declared.program.Function.{Function}
 use Rattle.c_typed.specs.declared.program.Mention.{Mention}
 use Rattle.c_typed.specs.declared.program.Object.{Object}
 use Rattle.c_erasure.specs.Scopes.{AFunction, AMention, FileScope}
@@ -10,7 +12,6 @@ use Rattle.c_erasure.specs.Units.{function, mention, mentions, new_among, object
 use Rattle.c_units.specs.CollectedTypes.{all_types}
 use Rattle.c_units.specs.NumberedParts.{function_in, mention_in, object_in}
 use Rattle.c_units.specs.ValuedObjects.{ValuedObject}
-use Rattle.c_units.specs.declared.unit.Given.{Given}
 
 abbrev pub unit_with : ℕ → FileScope → UnitData
 unit_with nodes f = record {
@@ -31,8 +32,9 @@ pub record GivenParts : Type 0 where
   pub functions : List FunctionData
   pub mentions : List Mention
 
-abbrev pub parts_of : Given → GivenParts
-parts_of g = record { types = map type_of g.types; objects = g.objects; functions = map data_of g.functions; mentions = g.mentions }
+-- by the table of all types, and the objects, functions and mentions
+abbrev pub parts_of : List Ty → List Object × List Function × List Mention → GivenParts
+parts_of types parts = record { types = map type_of types; objects = parts.0; functions = map data_of parts.1; mentions = parts.2 }
 
 -- by the list of all types, and with numbered functions
 abbrev pub given_with : List CType → ℕ → List ValuedObject → List FunctionData → List AMention → GivenParts

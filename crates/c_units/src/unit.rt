@@ -1,107 +1,81 @@
 //! The unit of a file.
 
-ghost use Rattle.std.specs.Prelude.{◌≡◌, IfOk, drop, map};
+ghost use Rattle.std.specs.Prelude.{◌≡◌, [], IfOk, OnOk, drop, fold, map};
 ghost use Rattle.c_annotated.specs.FileViews.{function_of, mention_of, object_of};
 ghost use Rattle.c_erasure.specs.Scopes;
+ghost use Rattle.c_numbers.specs.TypeNumbers.Adding.{with_type};
 ghost use Rattle.c_scopes.specs.Scoping.{file_of};
 ghost use Rattle.c_typed.specs.Programs.{data_of, unit_data};
-ghost use Rattle.c_units.specs.RecognisedParts.{recognised_function, recognised_object};
-ghost use Rattle.c_units.specs.SizeOperands.{mentions_of};
-ghost use Rattle.c_units.specs.UnitWith.{given, given_by, given_with, parts_of, unit_with};
-ghost use Rattle.c_units.specs.ValuedObjects.{valued_of};
 ghost use Rattle.c_types.specs.Views.{records_of, type_of};
+ghost use Rattle.c_units.specs.CollectedTypes.{given_types};
+ghost use Rattle.c_units.specs.NumberedParts.{function_in, mention_in};
+ghost use Rattle.c_units.specs.RecognisedParts.{recognised_function, recognised_object};
+ghost use Rattle.c_units.specs.SizeOperands.{given_mentions};
+ghost use Rattle.c_units.specs.UnitWith.{given_by, parts_of, unit_with};
 
-use crate::mentions::mentions_of;
-use crate::numbers::{numbered_functions, numbered_mentions, numbered_objects};
-use crate::places::size_operands;
-use crate::recognition::{recognise_functions, recognise_objects};
-use crate::types::{add_mentions, add_objects};
-use crate::values::{Valued, valued_objects};
+use crate::functions::{numbered_functions, set_of};
+use crate::mentions::add_mentions;
+use crate::objects::{numbered_objects, recognise_objects, valued_objects};
 use c_annotated::{Function, Mention, Object};
-use c_numbers::TypeTable;
+use c_numbers::{NumberSet, TypeTable};
 use c_scopes::{FileScope, Tags};
 use c_typed::Unit;
-use c_types::{Records, Ty};
+use c_types::Records;
 use lay_base::{List, Name, NoMemory, split_off};
 use std::alloc::Global;
 
-/// What a file declares, with allocations and null pointers recognised in its trees, and of which types it speaks.
-#[derive(Drop)]
-struct Recognised {
-    objects: List<Object>,
-    functions: List<Function>,
-    mentions: List<Mention>,
-}
+/// The objects, functions and mentions of a unit.
+type Parts = (
+    List<c_typed::Object>,
+    List<c_typed::Function>,
+    List<c_typed::Mention>,
+);
 
-/// Recognises allocations and null pointers, and which `sizeof`s are size operands.
-fn recognise(
+/// The functions, and the mentions with those of initializers at the end. Adds their types to a table.
+fn functions_and_mentions(
     alloc: Global,
-    objects: List<Object>,
-    functions: List<Function>,
-    mentions: List<Mention>,
-) -> Result<Recognised, NoMemory>
-    ensures objects { IfOk result (λ r. map object_of r.objects ≡ map recognised_object (map object_of objects)) }
-    ensures functions { IfOk result (λ r. map function_of r.functions ≡ map recognised_function (map function_of functions)) }
-    ensures mentions { IfOk result (λ r. map mention_of r.mentions ≡ mentions_of (map object_of objects) (map function_of functions) (map mention_of mentions)) }
-{
-    let sizes = size_operands(alloc, functions.as_slice())?;
-    let mut objects = objects;
-    let mut functions = functions;
-    recognise_objects(alloc, &mut objects)?;
-    recognise_functions(alloc, &mut functions)?;
-    let mentions = mentions_of(alloc, &sizes, mentions, objects.as_slice())?;
-    Ok(Recognised {
-        objects,
-        functions,
-        mentions,
-    })
-}
-
-/// What a file gives by the numbers of its types.
-#[derive(Drop)]
-struct Given {
-    types: List<Ty>,
-    objects: List<c_typed::Object>,
-    functions: List<c_typed::Function>,
-    mentions: List<c_typed::Mention>,
-}
-
-/// What a file gives, by the table of all types and by its functions.
-fn given_with(
-    alloc: Global,
+    types: &mut TypeTable,
     file: u16,
-    types: TypeTable,
-    objects: List<Valued>,
-    functions: List<c_typed::Function>,
-    mentions: List<Mention>,
-) -> Result<Given, NoMemory>
-    ensures { IfOk result (λ r. parts_of r ≡ given_with (map type_of types) file (map valued_of objects) (map data_of functions) (map mention_of mentions)) }
+    functions: List<Function>,
+    mentions: &[Mention],
+    told: &[Mention],
+) -> Result<(List<c_typed::Function>, List<c_typed::Mention>), NoMemory>
+    ensures types { OnOk result (map type_of types.new
+        ≡ fold with_type (map type_of types.old) (given_types (map function_of functions) (map mention_of mentions.now) (map mention_of told.now))) }
+    ensures functions { IfOk result (λ r. map data_of r.0 ≡ map (function_in (map type_of types.new)) (map recognised_function (map function_of functions))) }
+    ensures mentions { IfOk result (λ r. r.1
+        ≡ map (mention_in (map type_of types.new) file) (given_mentions (map function_of functions) (map mention_of mentions.now) (map mention_of told.now))) }
 {
-    let objects = numbered_objects(alloc, &types, objects)?;
-    let mentions = numbered_mentions(alloc, &types, file, mentions)?;
-    Ok(Given {
-        types: types.into_list(),
-        objects,
-        functions,
-        mentions,
-    })
+    let mut places = List::new(alloc);
+    let functions = numbered_functions(alloc, types, &mut places, functions)?;
+    let sizes = set_of(alloc, places.as_slice())?;
+    let mut found = List::new(alloc);
+    add_mentions(alloc, types, &mut found, file, &sizes, mentions)?;
+    let none = NumberSet::new(alloc);
+    add_mentions(alloc, types, &mut found, file, &none, told)?;
+    Ok((functions, found))
 }
 
-/// Numbers the types.
-fn numbered(
+/// What a file gives by the numbers of its types, which are added to an empty table. Null pointers are recognised in its objects.
+fn given_by(
     alloc: Global,
+    types: &mut TypeTable,
     file: u16,
-    objects: List<Valued>,
+    records: &Records,
+    objects: &[Object],
     functions: List<Function>,
-    mentions: List<Mention>,
-) -> Result<Given, NoMemory>
-    ensures { IfOk result (λ r. parts_of r ≡ given file (map valued_of objects) (map function_of functions) (map mention_of mentions)) }
+    mentions: &[Mention],
+) -> Result<Parts, NoMemory>
+    ensures { (f : Scopes.FileScope) → types.old ≡ [] → f.file ≡ file → f.records ≡ records_of records.now
+        → map object_of objects.now ≡ map recognised_object f.objects → f.functions ≡ map function_of functions
+        → f.mentions ≡ map mention_of mentions.now → IfOk result (λ r. parts_of types.new r ≡ given_by f) }
 {
-    let mut types = TypeTable::new(alloc);
-    add_objects(alloc, &mut types, objects.as_slice())?;
-    let functions = numbered_functions(alloc, &mut types, functions)?;
-    add_mentions(alloc, &mut types, mentions.as_slice())?;
-    given_with(alloc, file, types, objects, functions, mentions)
+    let mut told = List::new(alloc);
+    let valued = valued_objects(alloc, types, &mut told, records, objects)?;
+    let left = functions_and_mentions(alloc, types, file, functions, mentions, told.as_slice())?;
+    let (functions, mentions) = left;
+    let objects = numbered_objects(alloc, types, valued.as_slice())?;
+    Ok((objects, functions, mentions))
 }
 
 /// The tags of the records that are not complete.
@@ -114,33 +88,12 @@ fn incomplete(tags: Tags, complete: usize) -> Result<List<Name>, NoMemory>
     Ok(List::of(rest))
 }
 
-/// What a file declares by the numbers of its types.
-fn given_by(
-    alloc: Global,
-    file: u16,
-    records: &Records,
-    objects: List<Object>,
-    functions: List<Function>,
-    mentions: List<Mention>,
-) -> Result<Given, NoMemory>
-    ensures { (f : Scopes.FileScope) → f.file ≡ file → f.records ≡ records_of records.now → f.objects ≡ map object_of objects
-        → f.functions ≡ map function_of functions → f.mentions ≡ map mention_of mentions → IfOk result (λ r. parts_of r ≡ given_by f) }
-{
-    let left = recognise(alloc, objects, functions, mentions)?;
-    let Recognised {
-        objects,
-        functions,
-        mentions,
-    } = left;
-    let objects = valued_objects(alloc, records, objects)?;
-    numbered(alloc, file, objects, functions, mentions)
-}
-
 /// What a file gives to its program, whose tree has that number of nodes.
-pub fn unit_of(alloc: Global, file: FileScope, nodes: u64) -> Result<Unit, NoMemory>
+pub fn unit_of(file: FileScope, nodes: u64) -> Result<Unit, NoMemory>
     ensures { IfOk result (λ u. unit_data u ≡ unit_with nodes (file_of file)) }
 {
     let FileScope {
+        alloc,
         number,
         tags,
         records,
@@ -150,17 +103,23 @@ pub fn unit_of(alloc: Global, file: FileScope, nodes: u64) -> Result<Unit, NoMem
         ..
     } = file;
     let incomplete = incomplete(tags, records.len())?;
-    let given = given_by(alloc, number, &records, objects, functions, mentions)?;
-    let Given {
-        types,
-        objects,
+    let mut objects = objects;
+    recognise_objects(alloc, &mut objects)?;
+    let mut types = TypeTable::new(alloc);
+    let given = given_by(
+        alloc,
+        &mut types,
+        number,
+        &records,
+        objects.as_slice(),
         functions,
-        mentions,
-    } = given;
+        mentions.as_slice(),
+    )?;
+    let (objects, functions, mentions) = given;
     Ok(Unit {
         records,
         incomplete,
-        types,
+        types: types.into_list(),
         objects,
         functions,
         mentions,

@@ -23,7 +23,7 @@ use c_ast::{
 use c_check_expressions::{base, derivations};
 use c_check_parts::sized;
 use c_declaring::declared_name;
-use c_externals::at_file_scope;
+use c_externals::{Named, at_file_scope};
 use c_nodes::{Derivation, Fault, Storage, derived, storage_of};
 use c_scopes::FileScope;
 use c_types::{Records, Ty, copy};
@@ -49,7 +49,6 @@ fn type_made(
 
 /// A declarator with a name, which is in scope from `from` on.
 fn declare_name(
-    alloc: Global,
     words: Storage,
     base: &Ty,
     d: &InitDeclarator,
@@ -62,14 +61,20 @@ fn declare_name(
         (named_declarator (file_of file.old) (storage_view words) (type_of base.now) (init_declarator_of d.now) from nodes x.now) file.new }
 {
     let before = file.mentions.len();
-    let steps = derivations(alloc, &d.declarator, file, at_file_scope())?;
-    let t = type_made(alloc, &file.records, steps, base, d, x.from)?;
-    let place = first_of_declarator(&d.declarator);
-    declare_as(alloc, words, before, place, from, x, t, d, nodes, file)
+    let steps = derivations(&d.declarator, file, at_file_scope())?;
+    let t = type_made(file.alloc, &file.records, steps, base, d, x.from)?;
+    let it = Named {
+        words,
+        x,
+        before,
+        place: first_of_declarator(&d.declarator),
+        from,
+        nodes,
+    };
+    declare_as(it, t, d, file)
 }
 
 fn declare(
-    alloc: Global,
     words: Storage,
     base: &Ty,
     d: &InitDeclarator,
@@ -82,7 +87,7 @@ fn declare(
 {
     match declared_name(&d.declarator) {
         None => Err(Fault::IllTyped(Rule::Specifiers, first_of_declarator(&d.declarator))),
-        Some(x) => declare_name(alloc, words, base, d, x, from, nodes, file),
+        Some(x) => declare_name(words, base, d, x, from, nodes, file),
     }
 }
 
@@ -112,7 +117,6 @@ fn name_from(d: &InitDeclarator, end: u32) -> u32
 
 /// The declarators of a declaration, one after the other.
 fn declare_all(
-    alloc: Global,
     words: Storage,
     base: &Ty,
     declarators: &[InitDeclarator],
@@ -125,7 +129,7 @@ fn declare_all(
 {
     for (number, d) in declarators.iter().enumerate() {
         let from = name_from(d, end_of(declarators, number, semicolon));
-        match declare(alloc, words, base, d, from, nodes, file) {
+        match declare(words, base, d, from, nodes, file) {
             Ok(()) => {}
             Err(fault) => return Err(fault),
         }
@@ -168,29 +172,17 @@ fn may_stand_in_file(words: Storage) -> bool
 }
 
 /// A declaration of the file, in an item of that many nodes.
-pub fn declaration(
-    alloc: Global,
-    d: &Declaration,
-    nodes: u64,
-    file: &mut FileScope,
-) -> Result<(), Fault>
+pub fn declaration(d: &Declaration, nodes: u64, file: &mut FileScope) -> Result<(), Fault>
     ensures { Files result (file_declaration (declaration_of d.now) (file_of file.old) nodes) file.new }
 {
     let words = storage_of(d.specifiers.as_slice());
     if !may_stand_in_file(words) {
         return Err(Fault::IllTyped(Rule::Specifiers, first_of_declaration(d)));
     }
-    let base = base(alloc, &d.specifiers, file, at_file_scope())?;
+    let base = base(&d.specifiers, file, at_file_scope())?;
     if d.declarators.is_empty() && !declares_tag(d.specifiers.as_slice()) {
         return Err(Fault::IllTyped(Rule::Specifiers, first_of_declaration(d)));
     }
-    declare_all(
-        alloc,
-        words,
-        &base,
-        d.declarators.as_slice(),
-        d.semicolon,
-        nodes,
-        file,
-    )
+    let declarators = d.declarators.as_slice();
+    declare_all(words, &base, declarators, d.semicolon, nodes, file)
 }

@@ -17,7 +17,7 @@ use c_ast::{InitDeclarator, InitialValue, Spelling};
 use c_check_parts::constants_if_any;
 use c_declaring::mention;
 use c_externals::{
-    at_file_scope, bind, bind_object, declare_function, define_object, library_named, once,
+    Named, at_file_scope, bind, bind_object, declare_function, define_object, library_named, once,
     own_name, place_of,
 };
 use c_nodes::{Fault, Storage, object};
@@ -25,7 +25,6 @@ use c_scopes::FileScope;
 use c_typed::{MentionKind, is_function};
 use c_types::{Ty, copy};
 use lay_base::{Place, Rule};
-use std::alloc::Global;
 
 /// Neither a type nor a function has an initializer. `at` is where the name stands.
 fn without_value(at: u32, value: &Option<InitialValue>) -> Result<(), Fault>
@@ -38,26 +37,19 @@ fn without_value(at: u32, value: &Option<InitialValue>) -> Result<(), Fault>
 }
 
 /// The name of a type (C99 6.7.7).
-fn declare_typedef(
-    alloc: Global,
-    file: &mut FileScope,
-    x: &Spelling,
-    from: u32,
-    t: &Ty,
-) -> Result<(), Fault>
+fn declare_typedef(file: &mut FileScope, x: &Spelling, from: u32, t: &Ty) -> Result<(), Fault>
     ensures { Files result (declare_typedef_in (file_of file.old) x.now from (type_of t.now)) file.new }
 {
     own_name(x.from, library_named(x.text.as_slice()))?;
-    once(alloc, x, place_of(file, x.text.as_slice()))?;
-    let entity = Entity::Typedef(copy(alloc, t)?);
-    bind(alloc, file, x, from, How::Defines, entity)?;
+    once(file.alloc, x, place_of(file, x.text.as_slice()))?;
+    let entity = Entity::Typedef(copy(file.alloc, t)?);
+    bind(file, x, from, How::Defines, entity)?;
     Ok(())
 }
 
 /// What the object with that number holds at first, where its declaration says it.
 #[tactic(auto, using(crate::proofs::FileDeclarations::Objects::object_initialized))]
 fn initialize(
-    alloc: Global,
     value: &Option<InitialValue>,
     file: &mut FileScope,
     n: usize,
@@ -73,138 +65,71 @@ fn initialize(
         file: file.number,
         at: place,
     };
-    let initial = constants_if_any(alloc, value, file, at_file_scope(), t)?;
-    define_object(alloc, &mut file.objects, n, place, initial);
+    let initial = constants_if_any(value, file, at_file_scope(), t)?;
+    define_object(file.alloc, &mut file.objects, n, place, initial);
     Ok(())
 }
 
 /// An object of that type, whose name is bound before its initializer is read.
 #[tactic(auto, using(crate::proofs::FileDeclarations::Objects::bound_then_defined))]
-fn declare_object(
-    alloc: Global,
-    value: &Option<InitialValue>,
-    file: &mut FileScope,
-    words: Storage,
-    x: &Spelling,
-    place: u32,
-    from: u32,
-    t: &Ty,
-) -> Result<(), Fault>
+fn declare_object(it: Named, t: &Ty, d: &InitDeclarator, file: &mut FileScope) -> Result<(), Fault>
     ensures { Files result
-        (declare_object_in (file_of file.old) (storage_view words) x.now place from (type_of t.now) (option_map value_of value.now)) file.new }
+        (declare_object_in (file_of file.old) (storage_view it.entry.words) it.entry.x.now it.entry.place it.entry.from (type_of t.now)
+        (option_map value_of d.now.value)) file.new }
 {
-    let n = bind_object(alloc, value, file, words, x, place, from, t)?;
-    initialize(alloc, value, file, n, place, t)
+    let n = bind_object(&d.value, file, it, t)?;
+    initialize(&d.value, file, n, it.place, t)
 }
 
 /// The name of a type, of which the file speaks now.
-fn type_declared(
-    alloc: Global,
-    before: usize,
-    place: u32,
-    from: u32,
-    x: &Spelling,
-    t: &Ty,
-    value: &Option<InitialValue>,
-    file: &mut FileScope,
-) -> Result<(), Fault>
-    ensures { Files result (type_declared before place from x.now (type_of t.now) (option_map value_of value.now) (file_of file.old)) file.new }
+fn type_declared(it: Named, t: &Ty, d: &InitDeclarator, file: &mut FileScope) -> Result<(), Fault>
+    ensures { Files result (type_declared it.entry.before it.entry.place it.entry.from it.entry.x.now (type_of t.now)
+        (option_map value_of d.now.value) (file_of file.old)) file.new }
 {
-    without_value(x.from, value)?;
-    mention(
-        alloc,
-        file,
-        at_file_scope(),
-        before,
-        MentionKind::Named,
-        t,
-        place,
-    )?;
-    declare_typedef(alloc, file, x, from, t)
+    without_value(it.x.from, &d.value)?;
+    let kind = MentionKind::Named;
+    mention(file, at_file_scope(), it.before, kind, t, it.place)?;
+    declare_typedef(file, it.x, it.from, t)
 }
 
 /// A function, of whose type the file speaks now.
 fn function_declared(
-    alloc: Global,
-    words: Storage,
-    before: usize,
-    place: u32,
-    from: u32,
-    x: &Spelling,
+    it: Named,
     t: &Ty,
-    value: &Option<InitialValue>,
-    nodes: u64,
+    d: &InitDeclarator,
     file: &mut FileScope,
 ) -> Result<(), Fault>
-    ensures { Files result
-        (function_declared (storage_view words) before place from x.now (type_of t.now) (option_map value_of value.now) nodes (file_of file.old)) file.new }
+    ensures { Files result (function_declared (storage_view it.entry.words) it.entry.before it.entry.place it.entry.from it.entry.x.now (type_of t.now)
+        (option_map value_of d.now.value) it.entry.nodes (file_of file.old)) file.new }
 {
-    without_value(x.from, value)?;
-    mention(
-        alloc,
-        file,
-        at_file_scope(),
-        before,
-        MentionKind::Named,
-        t,
-        place,
-    )?;
-    declare_function(alloc, file, words, x, place, from, t, nodes)
+    without_value(it.x.from, &d.value)?;
+    let kind = MentionKind::Named;
+    mention(file, at_file_scope(), it.before, kind, t, it.place)?;
+    declare_function(file, it, t)
 }
 
 /// An object, whose type is complete where its name stands (C99 6.9.2).
-fn object_declared(
-    alloc: Global,
-    words: Storage,
-    before: usize,
-    place: u32,
-    from: u32,
-    x: &Spelling,
-    t: Ty,
-    value: &Option<InitialValue>,
-    file: &mut FileScope,
-) -> Result<(), Fault>
-    ensures { Files result
-        (object_declared (storage_view words) before place from x.now (type_of t) (option_map value_of value.now) (file_of file.old)) file.new }
+fn object_declared(it: Named, t: Ty, d: &InitDeclarator, file: &mut FileScope) -> Result<(), Fault>
+    ensures { Files result (object_declared (storage_view it.entry.words) it.entry.before it.entry.place it.entry.from it.entry.x.now (type_of t)
+        (option_map value_of d.now.value) (file_of file.old)) file.new }
 {
-    let t = object(&file.records, file.tags.ended(x.from), x.from, t)?;
-    mention(
-        alloc,
-        file,
-        at_file_scope(),
-        before,
-        MentionKind::Object,
-        &t,
-        place,
-    )?;
-    declare_object(alloc, value, file, words, x, place, from, &t)
+    let t = object(&file.records, file.tags.ended(it.x.from), it.x.from, t)?;
+    let kind = MentionKind::Object;
+    mention(file, at_file_scope(), it.before, kind, &t, it.place)?;
+    declare_object(it, &t, d, file)
 }
 
-/// A name of that type, by its storage class. `before` is how many types the file has spoken of before the declarator, which begins at `place`; the
-/// name is in scope from `from` on.
+/// A name of that type, by its storage class.
 #[tactic(auto, using(crate::proofs::FileDeclarations::NoTypedef::an_object))]
-pub fn declare_as(
-    alloc: Global,
-    words: Storage,
-    before: usize,
-    place: u32,
-    from: u32,
-    x: &Spelling,
-    t: Ty,
-    d: &InitDeclarator,
-    nodes: u64,
-    file: &mut FileScope,
-) -> Result<(), Fault>
-    ensures { Files result
-        (declare_as_in (storage_view words) before place from x.now (type_of t) (init_declarator_of d.now) nodes (file_of file.old)) file.new }
+pub fn declare_as(it: Named, t: Ty, d: &InitDeclarator, file: &mut FileScope) -> Result<(), Fault>
+    ensures { Files result (declare_as_in (storage_view it.entry.words) it.entry.before it.entry.place it.entry.from it.entry.x.now (type_of t)
+        (init_declarator_of d.now) it.entry.nodes (file_of file.old)) file.new }
 {
-    if words == Storage::Typedef {
-        type_declared(alloc, before, place, from, x, &t, &d.value, file)
+    if it.words == Storage::Typedef {
+        type_declared(it, &t, d, file)
     } else if is_function(&t) {
-        function_declared(
-            alloc, words, before, place, from, x, &t, &d.value, nodes, file,
-        )
+        function_declared(it, &t, d, file)
     } else {
-        object_declared(alloc, words, before, place, from, x, t, &d.value, file)
+        object_declared(it, t, d, file)
     }
 }

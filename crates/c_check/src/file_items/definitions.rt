@@ -2,7 +2,7 @@
 
 ghost use Rattle.std.specs.Prelude.{◌≡◌, Ok, OnOk, Some, IfOk, drop, map, take};
 ghost use Rattle.c_types.specs.Views.{type_of, types_of};
-ghost use Rattle.c_ast.specs.Places.{first_declarator, first_specifiers};
+ghost use Rattle.c_ast.specs.Places.{first_specifiers};
 ghost use Rattle.c_ast.specs.Views.{declarator_of};
 ghost use Rattle.c_annotated.specs.FileViews.{local_of};
 ghost use Rattle.c_annotated.specs.Views.{statement_of};
@@ -15,7 +15,7 @@ ghost use Rattle.c_externals.specs.Filing.{Files};
 ghost use Rattle.c_externals.specs.Receiving.{received_of};
 ghost use Rattle.c_nodes.specs.Gives.{Gives};
 ghost use Rattle.c_scopes.specs.Scoping.{file_of};
-ghost use Rattle.c_check.specs.FileItems.Defined.{body_in, function_defined, function_if_named, specifiers_in, with_definition};
+ghost use Rattle.c_check.specs.FileItems.Defined.{body_in, function_if_named, specifiers_in, with_definition};
 
 use c_annotated::{Local, Statement};
 use c_ast::{Function, Spelling, first_of_declarator, first_of_specifiers};
@@ -23,7 +23,7 @@ use c_check_expressions::{base, derivations};
 use c_check_statements::{Around, block_items, block_of};
 use c_declaring::{declared_name, mention};
 use c_externals::{
-    Received, at_file_scope, bind_function, define_function, parameters_of, receive,
+    Named, Received, at_file_scope, bind_function, define_function, parameters_of, receive,
 };
 use c_nodes::{Fault, Shape, Storage, derived, storage_of};
 use c_scopes::{Block, FileScope};
@@ -70,7 +70,6 @@ fn parted(
 /// The function with that number is defined by a body, whose locals are these, `count` parameters first.
 #[tactic(auto, using(crate::proofs::FileItems::Bodies::parted_locals))]
 fn define(
-    alloc: Global,
     file: &mut FileScope,
     n: usize,
     place: u32,
@@ -82,13 +81,13 @@ fn define(
     ensures { OnOk result
         (file_of file.new ≡ with_definition (file_of file.old) n place count nodes (map local_of locals) (statement_of body)) }
 {
-    let (parameters, locals) = parted(alloc, locals, count)?;
+    let (parameters, locals) = parted(file.alloc, locals, count)?;
     let place = Place {
         file: file.number,
         at: place,
     };
     define_function(
-        alloc,
+        file.alloc,
         &mut file.functions,
         n,
         place,
@@ -102,7 +101,6 @@ fn define(
 
 /// The body of the function with that number, which begins with the parameters' names in scope.
 fn define_body(
-    alloc: Global,
     f: &Function,
     file: &mut FileScope,
     n: usize,
@@ -123,119 +121,52 @@ fn define_body(
         in_loop: false,
         in_switch: false,
     };
-    let all = block_items(
-        alloc,
-        f.body.as_slice(),
-        around,
-        file,
-        &mut block,
-        &mut locals,
-    )?;
-    let body = block_of(alloc, all)?;
-    define(alloc, file, n, place, count, nodes, locals, body)?;
+    let all = block_items(f.body.as_slice(), around, file, &mut block, &mut locals)?;
+    let body = block_of(file.alloc, all)?;
+    define(file, n, place, count, nodes, locals, body)?;
     Ok(())
 }
 
-/// A function of that type, whose parameters all have names. Its name is in scope in its body.
-fn define_received(
-    alloc: Global,
-    f: &Function,
-    words: Storage,
-    x: &Spelling,
-    nodes: u64,
-    t: &Ty,
-    result_type: &Ty,
-    received: Received,
-    file: &mut FileScope,
-) -> Result<(), Fault>
-    ensures { let place = first_declarator (declarator_of f.now.declarator) x.now.from in
-        Files result (function_defined (file_of file.old) (storage_view words) x.now place f.now.open nodes (type_of t.now) (type_of result_type.now)
-        (body_in f.now) (received_of received)) file.new }
-{
-    let place = first_of_declarator(&f.declarator);
-    let n = bind_function(alloc, file, words, x, place, f.open, nodes, t)?;
-    define_body(alloc, f, file, n, place, nodes, result_type, received)
-}
-
-/// A function of that type, which gives `result_type` and takes `types`, if its parameters have names.
+/// A function of that type, which gives `result_type` and takes `types`, if its parameters have names. Its name is in scope in its body.
 fn define_function_of(
-    alloc: Global,
     f: &Function,
-    words: Storage,
-    x: &Spelling,
-    nodes: u64,
+    it: Named,
     t: &Ty,
     result_type: &Ty,
     types: &[Ty],
     file: &mut FileScope,
 ) -> Result<(), Fault>
-    ensures { let d = declarator_of f.now.declarator in let at = first_specifiers (specifiers_in f.now) in
-        let place = first_declarator d x.now.from in
-        Files result (function_if_named (file_of file.old) (storage_view words) x.now at place f.now.open nodes (type_of t.now) (type_of result_type.now)
-        (body_in f.now) (received_by (parameters_in d) (types_of types.now))) file.new }
+    ensures { let at = first_specifiers (specifiers_in f.now) in
+        Files result (function_if_named (file_of file.old) (storage_view it.entry.words) it.entry.x.now at it.entry.place it.entry.from it.entry.nodes
+        (type_of t.now) (type_of result_type.now) (body_in f.now)
+        (received_by (parameters_in (declarator_of f.now.declarator)) (types_of types.now))) file.new }
 {
-    match receive(alloc, parameters_of(&f.declarator), types)? {
+    match receive(file.alloc, parameters_of(&f.declarator), types)? {
         None => Err(Fault::IllTyped(Rule::Specifiers, first_of_function(f))),
-        Some(received) => define_received(
-            alloc,
-            f,
-            words,
-            x,
-            nodes,
-            t,
-            result_type,
-            received,
-            file,
-        ),
+        Some(received) => {
+            let n = bind_function(file, it, t)?;
+            define_body(f, file, n, it.place, it.nodes, result_type, received)
+        }
     }
 }
 
-/// A function, if that type is one's. `before` is how many types the file has spoken of before the declarator.
+/// A function, if that type is one's.
 #[tactic(auto, using(crate::proofs::FileItems::Bodies::bound_then_defined))]
-fn define_typed(
-    alloc: Global,
-    f: &Function,
-    words: Storage,
-    x: &Spelling,
-    before: usize,
-    nodes: u64,
-    t: &Ty,
-    file: &mut FileScope,
-) -> Result<(), Fault>
-    ensures { let d = declarator_of f.now.declarator in let at = first_specifiers (specifiers_in f.now) in
-        let place = first_declarator d x.now.from in
-        Files result (define_shape (file_of file.old) (storage_view words) x.now before at place f.now.open nodes (closed (type_of t.now))
-        (parameters_in d) (body_in f.now)) file.new }
+fn define_typed(f: &Function, it: Named, t: &Ty, file: &mut FileScope) -> Result<(), Fault>
+    ensures { let at = first_specifiers (specifiers_in f.now) in
+        Files result (define_shape (file_of file.old) (storage_view it.entry.words) it.entry.x.now it.entry.before at it.entry.place it.entry.from
+        it.entry.nodes (closed (type_of t.now)) (parameters_in (declarator_of f.now.declarator)) (body_in f.now)) file.new }
 {
     let Ty::Function(result_type, types) = t else {
         return Err(Fault::IllTyped(Rule::Specifiers, first_of_function(f)));
     };
-    let place = first_of_declarator(&f.declarator);
-    mention(
-        alloc,
-        file,
-        at_file_scope(),
-        before,
-        MentionKind::Named,
-        t,
-        place,
-    )?;
-    define_function_of(
-        alloc,
-        f,
-        words,
-        x,
-        nodes,
-        t,
-        result_type.get(),
-        types.get().as_slice(),
-        file,
-    )
+    let kind = MentionKind::Named;
+    mention(file, at_file_scope(), it.before, kind, t, it.place)?;
+    define_function_of(f, it, t, result_type.get(), types.get().as_slice(), file)
 }
 
 /// A definition whose name is that.
 fn define_name(
-    alloc: Global,
     f: &Function,
     base: Ty,
     x: &Spelling,
@@ -245,29 +176,30 @@ fn define_name(
     ensures { let d = declarator_of f.now.declarator in
         Files result (definition_named (file_of file.old) (specifiers_in f.now) (type_of base) d f.now.open nodes (body_in f.now) (Some x.now)) file.new }
 {
-    let words = storage_of(f.specifiers.as_slice());
-    let before = file.mentions.len();
-    let steps = derivations(alloc, &f.declarator, file, at_file_scope())?;
-    match derived(alloc, &file.records, steps, base)? {
-        Shape::Closed(t) => define_typed(alloc, f, words, x, before, nodes, &t, file),
+    let it = Named {
+        words: storage_of(f.specifiers.as_slice()),
+        x,
+        before: file.mentions.len(),
+        place: first_of_declarator(&f.declarator),
+        from: f.open,
+        nodes,
+    };
+    let steps = derivations(&f.declarator, file, at_file_scope())?;
+    match derived(file.alloc, &file.records, steps, base)? {
+        Shape::Closed(t) => define_typed(f, it, &t, file),
         Shape::OpenArray(_) => Err(Fault::IllTyped(Rule::Specifiers, first_of_function(f))),
     }
 }
 
 /// The definition of a function, in an item of that many nodes.
-pub fn definition(
-    alloc: Global,
-    f: &Function,
-    nodes: u64,
-    file: &mut FileScope,
-) -> Result<(), Fault>
+pub fn definition(f: &Function, nodes: u64, file: &mut FileScope) -> Result<(), Fault>
     ensures { Files result
         (function_definition (specifiers_in f.now) (declarator_of f.now.declarator) f.now.open (body_in f.now) (file_of file.old) nodes) file.new }
 {
     function_storage(first_of_function(f), storage_of(f.specifiers.as_slice()))?;
-    let base = base(alloc, &f.specifiers, file, at_file_scope())?;
+    let base = base(&f.specifiers, file, at_file_scope())?;
     match declared_name(&f.declarator) {
         None => Err(Fault::IllTyped(Rule::Specifiers, first_of_function(f))),
-        Some(x) => define_name(alloc, f, base, x, nodes, file),
+        Some(x) => define_name(f, base, x, nodes, file),
     }
 }

@@ -27,6 +27,7 @@ fn unread(alloc: Global, number: u16, tags: Tags) -> FileScope
     ensures { (items : List Trees.Item) → AreListsOf items tags → file_of result ≡ unread_in number (untagged_by tags.untagged) items }
 {
     FileScope {
+        alloc,
         number,
         names: BoundNames::new(alloc),
         tags,
@@ -39,37 +40,37 @@ fn unread(alloc: Global, number: u16, tags: Tags) -> FileScope
 
 /// An item of a file, after those before it: how many nodes it has.
 #[tactic(auto, unfolding(c_erasure::specs::Checking::Files::filed_item))]
-fn file_item(alloc: Global, item: &Item, file: &mut FileScope) -> Result<u64, Fault>
+fn file_item(item: &Item, file: &mut FileScope) -> Result<u64, Fault>
     requires { IsCountable (size_item (item_of item.now)) }
     ensures filed { Files result (filed_item (item_of item.now) (file_of file.old)) file.new }
     ensures nodes { IfOk result (λ nodes. nodes ≡ (size_item (item_of item.now)).nodes) }
 {
     let nodes = nodes_of_item(item);
     match item {
-        Item::Function(f) => definition(alloc, f, nodes, file)?,
-        Item::Declaration(d) => declaration(alloc, d, nodes, file)?,
+        Item::Function(f) => definition(f, nodes, file)?,
+        Item::Declaration(d) => declaration(d, nodes, file)?,
     }
     Ok(nodes)
 }
 
 /// An item of a file, which is let go behind it.
-fn finished_item(alloc: Global, item: Item, file: &mut FileScope) -> Result<u64, Fault>
+fn finished_item(item: Item, file: &mut FileScope) -> Result<u64, Fault>
     requires { IsCountable (size_item (item_of item)) }
     ensures filed { Files result (filed_item (item_of item) (file_of file.old)) file.new }
     ensures nodes { IfOk result (λ nodes. nodes ≡ (size_item (item_of item)).nodes) }
 {
-    file_item(alloc, &item, file)
+    file_item(&item, file)
 }
 
 /// The items of a file, one after the other: how many nodes they have. Each is let go before the next, while it is still at hand.
-fn file_items(alloc: Global, items: List<Item>, file: &mut FileScope) -> Result<u64, Fault>
+fn file_items(items: List<Item>, file: &mut FileScope) -> Result<u64, Fault>
     requires { IsCountable (size_items (map item_of items)) }
     ensures filed { Files result (filed (map item_of items) (file_of file.old)) file.new }
     ensures nodes { IfOk result (λ nodes. nodes ≡ (size_items (map item_of items)).nodes) }
 {
     let mut nodes: u64 = 0;
     for item in items.into_vec() {
-        match finished_item(alloc, item, file) {
+        match finished_item(item, file) {
             Ok(count) => nodes += count,
             Err(fault) => return Err(fault),
         }
@@ -92,7 +93,7 @@ pub fn annotated(
     ensures nodes { IfOk result (λ found. found.1 ≡ (size_items (items_of tree)).nodes) }
 {
     let mut file = unread(alloc, number, tags);
-    let nodes = file_items(alloc, tree.items, &mut file)?;
-    let file = closed(alloc, file)?;
+    let nodes = file_items(tree.items, &mut file)?;
+    let file = closed(file)?;
     Ok((file, nodes))
 }

@@ -8,14 +8,14 @@ use Rattle.c_ast.specs.Places.{first}
 use Rattle.c_ast.specs.Trees
 use Rattle.c_typed.specs.Trees.{PartValue, text}
 use Rattle.c_erasure.specs.Initializers.{Part}
-use Rattle.c_erasure.specs.Noted.{Noted, Thing}
+use Rattle.c_erasure.specs.Noted.{Noted}
 use Rattle.c_erasure.specs.Scopes.{Scope}
 use Rattle.lay_base.specs.declared.faults.Rule.TheVariants as R
 use Rattle.c_annotated.specs.declared.statement.InitializerPart.{InitializerPart}
 use Rattle.c_annotated.specs.Views.{part_of}
-use Rattle.c_erasure.specs.Checking.Answers.{◌>>=◌, Checked, refused, with_file}
-use Rattle.c_erasure.specs.Checking.Finding.{find, value_at}
-use Rattle.c_erasure.specs.Checking.Initializers.{initial_value_in, value_part, without_braces}
+use Rattle.c_erasure.specs.Checking.Answers.{◌>>=◌, Checked, refused}
+use Rattle.c_erasure.specs.Checking.Finding.{find}
+use Rattle.c_erasure.specs.Checking.Initializers.{without_braces}
 
 -- one part alone
 abbrev pub one_part : InitializerPart → List Part
@@ -24,11 +24,6 @@ one_part part = part_of part ∷ []
 -- parts after others
 abbrev pub parts_after : List Part → Checked (List Part) → Checked (List Part)
 parts_after before r = r >>= λ x. Ok (before ++ x.0, x.1)
-
--- the part that a number or a pointer is, which begins at `from`
-abbrev pub scalar_in : (from at : ℕ) → CType → Checked Thing → Checked (List Part)
-scalar_in from at t found =
-    value_at from found >>= λ x. with_file x.1 (initial_value_in from t x.0) >>= λ y. Ok (value_part at y.0, y.1)
 
 -- a field of which no more is known than its type
 abbrev pub bare_field : Ty → Field

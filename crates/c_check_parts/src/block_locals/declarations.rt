@@ -65,7 +65,6 @@ fn new_here(alloc: Global, x: &Spelling, old: Option<&Bound>) -> Result<(), Faul
 /// The type of an object that a declarator of a block declares.
 #[tactic(auto, using(crate::proofs::BlockLocals::Variables::variable_found))]
 fn variable_of(
-    alloc: Global,
     d: &InitDeclarator,
     x: &Spelling,
     file: &mut FileScope,
@@ -76,17 +75,16 @@ fn variable_of(
 {
     let count = file.tags.ended(x.from);
     let before = file.mentions.len();
-    let steps = derivations(alloc, &d.declarator, file, scope)?;
-    let t = variable_made(alloc, &file.records, steps, base, d, count, x.from)?;
-    new_here(alloc, x, here(file, scope, x.text.as_slice()))?;
+    let steps = derivations(&d.declarator, file, scope)?;
+    let t = variable_made(file.alloc, &file.records, steps, base, d, count, x.from)?;
+    new_here(file.alloc, x, here(file, scope, x.text.as_slice()))?;
     let at = first_of_declarator(&d.declarator);
-    mention(alloc, file, scope, before, MentionKind::Object, &t, at)?;
+    mention(file, scope, before, MentionKind::Object, &t, at)?;
     Ok(t)
 }
 
 /// An object that is made before the program starts. It is bound before its initializer is read.
 fn declare_static(
-    alloc: Global,
     d: &InitDeclarator,
     x: &Spelling,
     file: &mut FileScope,
@@ -97,21 +95,17 @@ fn declare_static(
     ensures { let s = standing file.old block.old locals.now in
         Performs (λ done. no_statements) result (declare_static_in s (init_declarator_of d.now) x.now (type_of t.now)) file.new block.new locals.now }
 {
-    let place = place_in(
-        file,
-        scope_in(block, locals),
-        first_of_declarator(&d.declarator),
-    );
-    let n = add_object(alloc, x, place, t, file, block)?;
-    let initial = constants_if_any(alloc, &d.value, file, scope_in(block, locals), t)?;
-    let object = static_object(alloc, x, place, t, Some(initial))?;
-    replace_object(alloc, &mut file.objects, n, object);
+    let at = first_of_declarator(&d.declarator);
+    let place = place_in(file, scope_in(block, locals), at);
+    let n = add_object(x, place, t, file, block)?;
+    let initial = constants_if_any(&d.value, file, scope_in(block, locals), t)?;
+    let object = static_object(file.alloc, x, place, t, Some(initial))?;
+    replace_object(file.alloc, &mut file.objects, n, object);
     Ok(())
 }
 
 /// A local that is made when its block is entered. It is bound before its initializer is read.
 fn declare_local(
-    alloc: Global,
     d: &InitDeclarator,
     x: &Spelling,
     file: &mut FileScope,
@@ -122,15 +116,14 @@ fn declare_local(
     ensures { let s = standing file.old block.old locals.old in
         Performs alone result (declare_local_in s (init_declarator_of d.now) x.now (type_of t.now)) file.new block.new locals.new }
 {
-    let n = add_local(alloc, x, t, block, locals)?;
-    let initial = initial_if_any(alloc, &d.value, file, scope_in(block, locals), t)?;
+    let n = add_local(file.alloc, x, t, block, locals)?;
+    let initial = initial_if_any(&d.value, file, scope_in(block, locals), t)?;
     Ok(Statement::Declare(n, initial))
 }
 
 /// The object that a declarator declares, after other statements.
 #[tactic(auto, using(crate::proofs::BlockLocals::InTurn::nothing_after))]
 fn declare_as(
-    alloc: Global,
     is_static: bool,
     d: &InitDeclarator,
     x: &Spelling,
@@ -145,20 +138,15 @@ fn declare_as(
         (statements_after (body_of all.old) (declare_as_in is_static s (init_declarator_of d.now) x.now (type_of t.now))) file.new block.new locals.new }
 {
     if is_static {
-        match declare_static(alloc, d, x, file, block, locals, t) {
-            Ok(()) => Ok(()),
-            Err(fault) => Err(fault),
-        }
+        declare_static(d, x, file, block, locals, t)?;
+        Ok(())
     } else {
-        match declare_local(alloc, d, x, file, block, locals, t) {
-            Ok(st) => add_statement(all, st),
-            Err(fault) => Err(fault),
-        }
+        let st = declare_local(d, x, file, block, locals, t)?;
+        add_statement(all, st)
     }
 }
 
 fn declare_named(
-    alloc: Global,
     is_static: bool,
     base: &Ty,
     d: &InitDeclarator,
@@ -173,16 +161,15 @@ fn declare_named(
 {
     match declared_name(&d.declarator) {
         None => Err(Fault::IllTyped(Rule::Specifiers, first_of_declarator(&d.declarator))),
-        Some(x) => match variable_of(alloc, d, x, file, scope_in(block, locals), base) {
-            Ok(t) => declare_as(alloc, is_static, d, x, file, block, locals, &t, all),
-            Err(fault) => Err(fault),
-        },
+        Some(x) => {
+            let t = variable_of(d, x, file, scope_in(block, locals), base)?;
+            declare_as(is_static, d, x, file, block, locals, &t, all)
+        }
     }
 }
 
 /// The objects that the declarators of a declaration declare.
 fn declare_all(
-    alloc: Global,
     declarators: &[InitDeclarator],
     is_static: bool,
     base: &Ty,
@@ -196,7 +183,7 @@ fn declare_all(
         (statements_after (body_of all.old) (declare_all_in (map init_declarator_of declarators.now) s is_static (type_of base.now))) file.new block.new locals.new }
 {
     for d in declarators {
-        match declare_named(alloc, is_static, base, d, file, block, locals, all) {
+        match declare_named(is_static, base, d, file, block, locals, all) {
             Ok(()) => {}
             Err(fault) => return Err(fault),
         }
@@ -206,7 +193,6 @@ fn declare_all(
 
 /// A declaration whose objects are made before the program starts, or not.
 fn declare(
-    alloc: Global,
     d: &Declaration,
     is_static: bool,
     file: &mut FileScope,
@@ -218,25 +204,16 @@ fn declare(
         Performs (λ done. body_of all.new) result
         (statements_after (body_of all.old) (declared_with (declaration_of d.now) s is_static)) file.new block.new locals.new }
 {
-    let base = base(alloc, &d.specifiers, file, scope_in(block, locals))?;
+    let base = base(&d.specifiers, file, scope_in(block, locals))?;
     if d.declarators.is_empty() {
         return Err(Fault::IllTyped(Rule::Specifiers, first_of_declaration(d)));
     }
-    declare_all(
-        alloc,
-        d.declarators.as_slice(),
-        is_static,
-        &base,
-        file,
-        block,
-        locals,
-        all,
-    )
+    let declarators = d.declarators.as_slice();
+    declare_all(declarators, is_static, &base, file, block, locals, all)
 }
 
 /// The statements of a declaration, after others.
 pub fn local_declaration(
-    alloc: Global,
     d: &Declaration,
     file: &mut FileScope,
     block: &mut Block,
@@ -249,9 +226,9 @@ pub fn local_declaration(
 {
     match storage_of(d.specifiers.as_slice()) {
         Storage::None | Storage::Auto | Storage::Register => {
-            declare(alloc, d, false, file, block, locals, all)
+            declare(d, false, file, block, locals, all)
         }
-        Storage::Static => declare(alloc, d, true, file, block, locals, all),
+        Storage::Static => declare(d, true, file, block, locals, all),
         Storage::Several => Err(Fault::IllTyped(Rule::Specifiers, first_of_declaration(d))),
         Storage::Typedef | Storage::Extern => {
             Err(Fault::IllTyped(Rule::Scope, first_of_declaration(d)))

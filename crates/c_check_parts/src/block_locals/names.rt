@@ -97,7 +97,6 @@ pub fn replace_object(alloc: Global, objects: &mut List<Object>, n: usize, o: Ob
 
 /// An object of the file that a block declares at a place. What it holds at first is added later.
 pub fn add_object(
-    alloc: Global,
     x: &Spelling,
     place: Place,
     t: &Ty,
@@ -109,9 +108,9 @@ pub fn add_object(
         ≡ with_new_object (standing file.old block.old locals) x.now place (type_of t.now)) }
 {
     let n = file.objects.len();
-    let b = bound(alloc, x, Entity::Object(n, copy(alloc, t)?))?;
-    let object = static_object(alloc, x, place, t, None)?;
+    let b = bound(file.alloc, x, Entity::Object(n, copy(file.alloc, t)?))?;
+    let object = static_object(file.alloc, x, place, t, None)?;
     add(&mut file.objects, object)?;
-    add_name(alloc, block, b)?;
+    add_name(file.alloc, block, b)?;
     Ok(n)
 }

@@ -15,8 +15,6 @@ use lay_base::{List, add};
 pub fn add_statement(all: &mut List<Statement>, st: Statement) -> Result<(), Fault>
     ensures { Gives (λ done. body_of all.new) result (Ok (followed_by (body_of all.old) (alone st))) }
 {
-    match add(all, st) {
-        Ok(()) => Ok(()),
-        Err(want) => Err(Fault::Memory(want)),
-    }
+    add(all, st)?;
+    Ok(())
 }

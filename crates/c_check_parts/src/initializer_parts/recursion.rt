@@ -39,7 +39,6 @@ fn add_part(parts: &mut List<InitializerPart>, part: InitializerPart) -> Result<
 
 /// Adds what an expression without braces initializes.
 fn add_plain(
-    alloc: Global,
     a: &Expression,
     file: &mut FileScope,
     scope: Scope,
@@ -51,10 +50,8 @@ fn add_plain(
         Finds (λ done. map part_of parts.new) result
         (parts_after (map part_of parts.old) (without_braces_in (first a) at (type_of t.now) (texts_of a) s.file (find a s))) file.new }
 {
-    match without_braces(alloc, a, file, scope, t, at, texts_of(a)) {
-        Ok(part) => add_part(parts, part),
-        Err(fault) => Err(fault),
-    }
+    let part = without_braces(a, file, scope, t, at, texts_of(a))?;
+    add_part(parts, part)
 }
 
 /// Adds the text of an array of characters, in braces that begin at `left`.
@@ -69,15 +66,12 @@ fn add_text(
     ensures { (file : FileScope) → Finds (λ done. map part_of parts.new) result
         (parts_after (map part_of parts.old) (with_file (file_of file) (text_of_array_in left at n true (option_copied texts.entry)))) file }
 {
-    match text_of_array(alloc, left, at, n, true, texts) {
-        Ok(part) => add_part(parts, part),
-        Err(fault) => Err(fault),
-    }
+    let part = text_of_array(alloc, left, at, n, true, texts)?;
+    add_part(parts, part)
 }
 
 /// Adds what one expression alone initializes, in braces that begin at `left`.
 fn add_one_value(
-    alloc: Global,
     left: u32,
     all: &[Argument],
     file: &mut FileScope,
@@ -90,10 +84,8 @@ fn add_one_value(
         Finds (λ done. map part_of parts.new) result
         (parts_after (map part_of parts.old) (one_value_in left (arguments_of (map argument_of all.now)) s (type_of t.now) at)) file.new }
 {
-    match one_value(alloc, left, all, file, scope, t, at) {
-        Ok(part) => add_part(parts, part),
-        Err(fault) => Err(fault),
-    }
+    let part = one_value(left, all, file, scope, t, at)?;
+    add_part(parts, part)
 }
 
 /// The types of some fields, in their order.
@@ -135,7 +127,6 @@ fn field_at(alloc: Global, records: &Records, r: usize, k: usize, at: u32) -> Re
 #[cycle(initializers)]
 #[tactic(auto, unfolding(c_erasure::specs::Checking::Initializers::initialized))]
 pub fn initialized(
-    alloc: Global,
     a: &Expression,
     file: &mut FileScope,
     scope: Scope,
@@ -151,34 +142,24 @@ pub fn initialized(
             Ty::Array(element, n) => {
                 let texts = texts_of(a);
                 if is_text(element.get(), texts) {
-                    add_text(alloc, *left, *n, texts, at, parts)
+                    add_text(file.alloc, *left, *n, texts, at, parts)
                 } else {
-                    elements(
-                        alloc,
-                        all.as_slice(),
-                        file,
-                        scope,
-                        element.get(),
-                        *n,
-                        at,
-                        parts,
-                    )
+                    elements(all.as_slice(), file, scope, element.get(), *n, at, parts)
                 }
             }
-            Ty::Record(r) => fields(alloc, all.as_slice(), file, scope, *r, at, parts),
+            Ty::Record(r) => fields(all.as_slice(), file, scope, *r, at, parts),
             Ty::Int(_) | Ty::Pointer(_) => {
-                add_one_value(alloc, *left, all.as_slice(), file, scope, t, at, parts)
+                add_one_value(*left, all.as_slice(), file, scope, t, at, parts)
             }
             Ty::Void | Ty::Function(_, _) => Err(Fault::IllTyped(Rule::Init, *left)),
         },
-        _ => add_plain(alloc, a, file, scope, t, at, parts),
+        _ => add_plain(a, file, scope, t, at, parts),
     }
 }
 
 /// Adds the parts of the elements of an array from one on, of which there are `n`.
 #[cycle(initializers)]
 fn elements(
-    alloc: Global,
     all: &[Argument],
     file: &mut FileScope,
     scope: Scope,
@@ -198,11 +179,11 @@ fn elements(
             return Err(Fault::IllTyped(Rule::Init, first_of_expression(&item.value)));
         }
         left -= 1;
-        match initialized(alloc, &item.value, file, scope, element, from, parts) {
+        match initialized(&item.value, file, scope, element, from, parts) {
             Ok(()) => {}
             Err(fault) => return Err(fault),
         }
-        match after_element(alloc, &file.records, element, from) {
+        match after_element(file.alloc, &file.records, element, from) {
             Ok(next) => from = next,
             Err(want) => return Err(Fault::Memory(want)),
         }
@@ -213,7 +194,6 @@ fn elements(
 /// Adds the parts of the fields of the record with the number `r`.
 #[cycle(initializers)]
 fn fields(
-    alloc: Global,
     all: &[Argument],
     file: &mut FileScope,
     scope: Scope,
@@ -226,7 +206,7 @@ fn fields(
         (parts_after (map part_of parts.old) (fields_from (arguments_of (map argument_of all.now)) s r 0 (fields_of (slice_get s.file.records r)) at)) file.new }
 {
     // The file may change with each item, so the types are copied before.
-    let types = match field_types(alloc, &file.records, r) {
+    let types = match field_types(file.alloc, &file.records, r) {
         Ok(types) => types,
         Err(want) => return Err(Fault::Memory(want)),
     };
@@ -235,16 +215,8 @@ fn fields(
         if k >= listed.len() {
             return Err(Fault::IllTyped(Rule::Init, first_of_expression(&item.value)));
         }
-        match field_at(alloc, &file.records, r, k, at) {
-            Ok(from) => match initialized(
-                alloc,
-                &item.value,
-                file,
-                scope,
-                &listed[k],
-                from,
-                parts,
-            ) {
+        match field_at(file.alloc, &file.records, r, k, at) {
+            Ok(from) => match initialized(&item.value, file, scope, &listed[k], from, parts) {
                 Ok(()) => {}
                 Err(fault) => return Err(fault),
             },

@@ -12,7 +12,7 @@ ghost use Rattle.c_erasure.specs.Checking.Initializers.{initial_record_in, one_v
 ghost use Rattle.c_nodes.specs.Gives.{Gives};
 ghost use Rattle.c_scopes.specs.Scoping.{scope_of};
 ghost use Rattle.c_check_expressions.specs.Finds.{Finds};
-ghost use Rattle.c_check_parts.specs.InitializerParts.Parts.{one_part, scalar_in, value_alone};
+ghost use Rattle.c_check_parts.specs.InitializerParts.Parts.{one_part, value_alone};
 
 use crate::initializer_parts::texts::{is_character, text_of_array};
 use c_annotated::{InitializerPart, PartValue, Thing};
@@ -22,27 +22,6 @@ use c_nodes::{Fault, initial_value, misplaced};
 use c_scopes::{FileScope, Scope};
 use c_types::{Ty, same};
 use lay_base::{List, Rule};
-use std::alloc::Global;
-
-/// A number or a pointer.
-fn scalar(
-    alloc: Global,
-    a: &Expression,
-    file: &mut FileScope,
-    scope: Scope,
-    t: &Ty,
-    at: u32,
-) -> Result<InitializerPart, Fault>
-    ensures { let a = expression_of a.now in
-        Finds one_part result (scalar_in (first a) at (type_of t.now) (find_in a (scope_of file.old scope.entry))) file.new }
-{
-    let x = value(alloc, a, file, scope)?;
-    let x = initial_value(alloc, first_of_expression(a), t, x)?;
-    Ok(InitializerPart {
-        offset: at,
-        value: PartValue::Value(x),
-    })
-}
 
 /// A record, which is initialized by another one of its type.
 #[tactic(auto, unfolding(c_erasure::specs::Checking::Initializers::initial_record_in))]
@@ -69,7 +48,6 @@ fn record(from: u32, at: u32, t: &Ty, thing: Thing) -> Result<InitializerPart, F
 
 /// What an expression without braces initializes, which begins at the byte `at` of the whole. `texts` are its string literals.
 pub fn without_braces(
-    alloc: Global,
     a: &Expression,
     file: &mut FileScope,
     scope: Scope,
@@ -81,19 +59,22 @@ pub fn without_braces(
         Finds one_part result (without_braces_in (first a) at (type_of t.now) (option_copied texts.entry) s.file (find_in a s)) file.new }
 {
     match t {
-        Ty::Int(_) | Ty::Pointer(_) => scalar(alloc, a, file, scope, t, at),
+        Ty::Int(_) | Ty::Pointer(_) => {
+            let x = value(a, file, scope)?;
+            let x = initial_value(file.alloc, first_of_expression(a), t, x)?;
+            Ok(InitializerPart {
+                offset: at,
+                value: PartValue::Value(x),
+            })
+        }
         Ty::Record(_) => {
-            let thing = find(alloc, a, file, scope)?;
+            let thing = find(a, file, scope)?;
             record(first_of_expression(a), at, t, thing)
         }
-        Ty::Array(element, n) => text_of_array(
-            alloc,
-            first_of_expression(a),
-            at,
-            *n,
-            is_character(element.get()),
-            texts,
-        ),
+        Ty::Array(element, n) => {
+            let is_text = is_character(element.get());
+            text_of_array(file.alloc, first_of_expression(a), at, *n, is_text, texts)
+        }
         Ty::Void | Ty::Function(_, _) => {
             Err(Fault::IllTyped(Rule::Init, first_of_expression(a)))
         }
@@ -102,7 +83,6 @@ pub fn without_braces(
 
 /// What one expression alone initializes, which has no braces of its own.
 fn value_alone(
-    alloc: Global,
     a: &Expression,
     file: &mut FileScope,
     scope: Scope,
@@ -113,14 +93,13 @@ fn value_alone(
 {
     match a {
         Expression::Braces(inner, _, _, _) => Err(Fault::IllTyped(Rule::Init, *inner)),
-        _ => without_braces(alloc, a, file, scope, t, at, None),
+        _ => without_braces(a, file, scope, t, at, None),
     }
 }
 
 /// What the only item in braces initializes. `left` is where these begin.
 #[tactic(auto, using(crate::proofs::InitializerParts::Braces::not_one, crate::proofs::InitializerParts::Braces::one_alone))]
 pub fn one_value(
-    alloc: Global,
     left: u32,
     all: &[Argument],
     file: &mut FileScope,
@@ -132,7 +111,7 @@ pub fn one_value(
         Finds one_part result (one_value_in left (arguments_of (map argument_of all.now)) s (type_of t.now) at) file.new }
 {
     if all.len() == 1 {
-        value_alone(alloc, &all[0].value, file, scope, t, at)
+        value_alone(&all[0].value, file, scope, t, at)
     } else {
         Err(Fault::IllTyped(Rule::Init, left))
     }

@@ -79,7 +79,6 @@ fn is_braces(a: &Expression) -> bool
 
 /// What an object of a type holds at first, by an initializer.
 pub fn initializer(
-    alloc: Global,
     a: &Expression,
     file: &mut FileScope,
     scope: Scope,
@@ -87,14 +86,13 @@ pub fn initializer(
 ) -> Result<Initializer, Fault>
     ensures { Finds initializer_of result (initializer_in (expression_of a.now) (scope_of file.old scope.entry) (type_of t.now)) file.new }
 {
-    let mut parts = List::new(alloc);
-    initialized(alloc, a, file, scope, t, 0, &mut parts)?;
+    let mut parts = List::new(file.alloc);
+    initialized(a, file, scope, t, 0, &mut parts)?;
     Ok(whole_of(t, is_braces(a), parts))
 }
 
 /// What an object of a type holds at first, where an initializer stands.
 pub fn initial_if_any(
-    alloc: Global,
     value: &Option<InitialValue>,
     file: &mut FileScope,
     scope: Scope,
@@ -105,13 +103,12 @@ pub fn initial_if_any(
 {
     match value {
         None => Ok(None),
-        Some(value) => Ok(Some(initializer(alloc, value.value.get(), file, scope, t)?)),
+        Some(value) => Ok(Some(initializer(value.value.get(), file, scope, t)?)),
     }
 }
 
 /// What an object of a type holds at first that is made before the program starts: it is zero where it has no initializer.
 pub fn constants_if_any(
-    alloc: Global,
     value: &Option<InitialValue>,
     file: &mut FileScope,
     scope: Scope,
@@ -121,10 +118,10 @@ pub fn constants_if_any(
         Finds initializer_of result (constants_if_any_in (option_map value_of value.now) s (type_of t.now)) file.new }
 {
     match value {
-        None => Ok(Initializer::Parts(List::new(alloc))),
+        None => Ok(Initializer::Parts(List::new(file.alloc))),
         Some(value) => {
             let a = value.value.get();
-            let initial = initializer(alloc, a, file, scope, t)?;
+            let initial = initializer(a, file, scope, t)?;
             constants(file, scope, first_of_expression(a), initial)
         }
     }

@@ -130,7 +130,6 @@ pub fn add_labelled(
 /// A declaration in the last arm.
 #[tactic(auto, using(crate::proofs::StatementParts::ArmsInTurn::goes_on))]
 pub fn declare_in_arm(
-    alloc: Global,
     d: &Declaration,
     file: &mut FileScope,
     block: &mut Block,
@@ -141,8 +140,6 @@ pub fn declare_in_arm(
         Performs (λ done. last_arm_of last.new) result (went_on (last_arm_of last.old) (local_declaration_in (declaration_of d.now) s))
         file.new block.new locals.new }
 {
-    match local_declaration(alloc, d, file, block, locals, &mut last.statements) {
-        Ok(()) => Ok(()),
-        Err(fault) => Err(fault),
-    }
+    local_declaration(d, file, block, locals, &mut last.statements)?;
+    Ok(())
 }

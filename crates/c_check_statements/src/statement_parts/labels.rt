@@ -75,13 +75,9 @@ fn add_case(at: u32, all: &mut SwitchLabels, own: &mut ArmLabels, v: u32) -> Res
     ensures found { Gives (λ done. labels_of all.new own.new) result (case_in at (switch_labels_of all.old) v own.old.cases own.old.defaults) }
     ensures same { own.new.defaults ≡ own.old.defaults }
 {
-    match with_case(at, all, v) {
-        Ok(()) => match add(&mut own.cases, v) {
-            Ok(()) => Ok(()),
-            Err(want) => Err(Fault::Memory(want)),
-        },
-        Err(fault) => Err(fault),
-    }
+    with_case(at, all, v)?;
+    add(&mut own.cases, v)?;
+    Ok(())
 }
 
 /// `default` after the labels of its statement. It stands at `at`.
@@ -90,19 +86,14 @@ fn add_default(at: u32, all: &mut SwitchLabels, own: &mut ArmLabels) -> Result<(
     ensures found { Gives (λ done. labels_of all.new own.new) result (default_in at (switch_labels_of all.old) own.old.cases own.old.defaults) }
     ensures counted { own.new.defaults ≤ own.old.defaults + 1 }
 {
-    match with_default(at, all) {
-        Ok(()) => {
-            own.defaults += 1;
-            Ok(())
-        }
-        Err(fault) => Err(fault),
-    }
+    with_default(at, all)?;
+    own.defaults += 1;
+    Ok(())
 }
 
 /// A label after others of a statement.
 #[tactic(auto, using(crate::proofs::StatementParts::LabelsInTurn::one_case, crate::proofs::StatementParts::LabelsInTurn::one_default))]
 fn add_label(
-    alloc: Global,
     label: &Label,
     file: &mut FileScope,
     scope: Scope,
@@ -117,7 +108,7 @@ fn add_label(
     ensures counted { own.new.defaults ≤ own.old.defaults + 1 }
 {
     match label {
-        Label::Case(at, a, _) => match constant(alloc, a, file, scope) {
+        Label::Case(at, a, _) => match constant(a, file, scope) {
             Ok(c) => add_case(*at, all, own, as_kind(kind, c.value)),
             Err(fault) => Err(fault),
         },
@@ -127,7 +118,6 @@ fn add_label(
 
 /// The labels of one statement.
 pub fn labels_in(
-    alloc: Global,
     labels: &[Label],
     file: &mut FileScope,
     scope: Scope,
@@ -138,11 +128,11 @@ pub fn labels_in(
         Finds (λ own. labels_of all.new own) result (labels_in_switch (map label_of labels.now) s kind (switch_labels_of all.old)) file.new }
 {
     let mut own = ArmLabels {
-        cases: List::new(alloc),
+        cases: List::new(file.alloc),
         defaults: 0,
     };
     for label in labels {
-        match add_label(alloc, label, file, scope, kind, all, &mut own) {
+        match add_label(label, file, scope, kind, all, &mut own) {
             Ok(()) => {}
             Err(fault) => return Err(fault),
         }

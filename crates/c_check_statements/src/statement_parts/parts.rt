@@ -14,11 +14,11 @@ ghost use Rattle.c_check_parts.specs.BlockLocals.Performing.{Performs, body_of, 
 ghost use Rattle.c_check_statements.specs.StatementParts.Parts.{value_returned as value_returned_in};
 
 use crate::statement_parts::making::statement;
-use c_annotated::{Expression, Local, Statement};
+use c_annotated::{Local, Statement};
 use c_ast::{Declaration, ForStart, first_of_declaration, first_of_expression};
 use c_check_expressions::value;
 use c_check_parts::{local_declaration, scope_in};
-use c_nodes::{Fault, Storage, condition as tested, returned, storage_of};
+use c_nodes::{Fault, Storage, Value, condition as tested, returned, storage_of};
 use c_scopes::{Block, FileScope};
 use c_typed::is_void;
 use c_types::Ty;
@@ -27,68 +27,63 @@ use std::alloc::Global;
 
 /// The value of an expression in a block.
 pub fn value_of_expression(
-    alloc: Global,
     a: &c_ast::Expression,
     file: &mut FileScope,
     block: &Block,
     locals: &List<Local>,
-) -> Result<Boxed<Expression>, Fault>
+) -> Result<Value, Fault>
     ensures { Performs expression_of result (value_of (tree_of a.now) (standing file.old block.now locals.now)) file.new block.now locals.now }
 {
-    value(alloc, a, file, scope_in(block, locals))
+    value(a, file, scope_in(block, locals))
 }
 
 /// The value of an expression, where there is one.
 pub fn value_if_any(
-    alloc: Global,
     a: &Option<Boxed<c_ast::Expression>>,
     file: &mut FileScope,
     block: &Block,
     locals: &List<Local>,
-) -> Result<Option<Boxed<Expression>>, Fault>
+) -> Result<Option<Value>, Fault>
     ensures { let s = standing file.old block.now locals.now in
         Performs (λ x. option_map expression_of x) result (value_of_option (option_map tree_of a.now) s) file.new block.now locals.now }
 {
     match a {
         None => Ok(None),
-        Some(a) => Ok(Some(value_of_expression(alloc, a.get(), file, block, locals)?)),
+        Some(a) => Ok(Some(value_of_expression(a.get(), file, block, locals)?)),
     }
 }
 
 /// A controlling expression: a number or a pointer (C99 6.8.4.1, 6.8.5).
 pub fn condition(
-    alloc: Global,
     a: &c_ast::Expression,
     file: &mut FileScope,
     block: &Block,
     locals: &List<Local>,
-) -> Result<Boxed<Expression>, Fault>
+) -> Result<Value, Fault>
     ensures { Performs expression_of result (condition_of (tree_of a.now) (standing file.old block.now locals.now)) file.new block.now locals.now }
 {
-    let x = value_of_expression(alloc, a, file, block, locals)?;
+    let x = value_of_expression(a, file, block, locals)?;
     tested(first_of_expression(a), x)
 }
 
 /// A controlling expression, where there is one.
 pub fn condition_if_any(
-    alloc: Global,
     a: &Option<Boxed<c_ast::Expression>>,
     file: &mut FileScope,
     block: &Block,
     locals: &List<Local>,
-) -> Result<Option<Boxed<Expression>>, Fault>
+) -> Result<Option<Value>, Fault>
     ensures { let s = standing file.old block.now locals.now in
         Performs (λ x. option_map expression_of x) result (condition_of_option (option_map tree_of a.now) s) file.new block.now locals.now }
 {
     match a {
         None => Ok(None),
-        Some(a) => Ok(Some(condition(alloc, a.get(), file, block, locals)?)),
+        Some(a) => Ok(Some(condition(a.get(), file, block, locals)?)),
     }
 }
 
 /// `return` with a value, which stands at `at` (C99 6.8.6.4).
 pub fn value_returned(
-    alloc: Global,
     a: &c_ast::Expression,
     at: u32,
     result_type: &Ty,
@@ -102,9 +97,9 @@ pub fn value_returned(
     if is_void(result_type) {
         return Err(Fault::IllTyped(Rule::Return, at));
     }
-    let x = value_of_expression(alloc, a, file, block, locals)?;
-    let x = returned(alloc, at, result_type, x)?;
-    statement(alloc, Statement::Return(Some(x)))
+    let x = value_of_expression(a, file, block, locals)?;
+    let x = returned(file.alloc, at, result_type, x)?;
+    statement(file.alloc, Statement::Return(Some(x)))
 }
 
 /// `return` without a value, which stands at `at` (C99 6.8.6.4).
@@ -130,20 +125,17 @@ pub fn jump(alloc: Global, at: u32, may: bool, st: Statement) -> Result<Boxed<St
 }
 
 /// An expression as the only statement.
-fn evaluated(alloc: Global, x: Boxed<Expression>) -> Result<List<Statement>, Fault>
+fn evaluated(alloc: Global, x: Value) -> Result<List<Statement>, Fault>
     ensures { Gives body_of result (Ok (Typed.and_statement (Typed.evaluate (expression_of x)) Typed.no_statements)) }
 {
     let mut all = List::new(alloc);
-    match add(&mut all, Statement::Do(x)) {
-        Ok(()) => Ok(all),
-        Err(want) => Err(Fault::Memory(want)),
-    }
+    add(&mut all, Statement::Do(x))?;
+    Ok(all)
 }
 
 /// The statements of a declaration alone.
 #[tactic(auto, using(c_check_parts::proofs::BlockLocals::InTurn::after_nothing))]
 fn declared(
-    alloc: Global,
     d: &Declaration,
     file: &mut FileScope,
     block: &mut Block,
@@ -152,16 +144,13 @@ fn declared(
     ensures { let s = standing file.old block.old locals.old in
         Performs body_of result (local_declaration_in (declaration_of d.now) s) file.new block.new locals.new }
 {
-    let mut all = List::new(alloc);
-    match local_declaration(alloc, d, file, block, locals, &mut all) {
-        Ok(()) => Ok(all),
-        Err(fault) => Err(fault),
-    }
+    let mut all = List::new(file.alloc);
+    local_declaration(d, file, block, locals, &mut all)?;
+    Ok(all)
 }
 
 /// What stands first in the parentheses of a `for` (C99 6.8.5.3).
 pub fn start_of(
-    alloc: Global,
     start: &ForStart,
     file: &mut FileScope,
     block: &mut Block,
@@ -171,18 +160,16 @@ pub fn start_of(
         Performs body_of result (start_in (for_start_of start.now) s) file.new block.new locals.new }
 {
     match start {
-        ForStart::Expression(None, _) => Ok(List::new(alloc)),
+        ForStart::Expression(None, _) => Ok(List::new(file.alloc)),
         ForStart::Expression(Some(a), _) => {
-            match value_of_expression(alloc, a.get(), file, block, locals) {
-                Ok(x) => evaluated(alloc, x),
-                Err(fault) => Err(fault),
-            }
+            let x = value_of_expression(a.get(), file, block, locals)?;
+            evaluated(file.alloc, x)
         }
         ForStart::Declaration(d) => {
             if storage_of(d.specifiers.as_slice()) == Storage::Static {
                 Err(Fault::IllTyped(Rule::Specifiers, first_of_declaration(d)))
             } else {
-                declared(alloc, d, file, block, locals)
+                declared(d, file, block, locals)
             }
         }
     }

@@ -12,11 +12,11 @@ ghost use Rattle.c_nodes.specs.Gives.{Gives};
 ghost use Rattle.c_nodes.specs.OperatorNodes.Parts.{parameters_of, result_of, signature_view};
 
 use crate::fault::Fault;
-use crate::making::{convert, node, object_value, pointer_to};
+use crate::making::{Start, Value, convert, node, object_value, pointer_to};
 use c_annotated::{Expression, ExpressionNode, Thing, is_null};
 use c_typed::{LibraryFunction, assigns};
 use c_types::{IntKind, Ty, copy};
-use lay_base::{Boxed, List, NoMemory, Place, Rule, Shared, add, shared};
+use lay_base::{List, NoMemory, Rule, Shared, add, shared};
 use std::alloc::Global;
 
 /// The types of the parameters, and of the result, of what is called.
@@ -138,12 +138,7 @@ pub fn signature_of(alloc: Global, at: u32, thing: &Thing) -> Result<Signature, 
 
 /// An argument, converted to the type of its parameter. It begins at `at`.
 #[tactic(auto, unfolding(c_erasure::specs::Checking::Nodes::argument_in))]
-pub fn argument(
-    alloc: Global,
-    at: u32,
-    t: &Ty,
-    x: Boxed<Expression>,
-) -> Result<Boxed<Expression>, Fault>
+pub fn argument(alloc: Global, at: u32, t: &Ty, x: Value) -> Result<Value, Fault>
     ensures { Gives expression_of result (argument_in at (type_of t.now) (expression_of x)) }
 {
     if assigns(&x.get().ty, is_null(x.get()), t) {
@@ -155,24 +150,21 @@ pub fn argument(
 
 /// A call, whose result has a type.
 #[tactic(auto, unfolding(c_erasure::specs::Checking::Nodes::call_in))]
-pub fn call(
-    alloc: Global,
-    at: Place,
-    thing: Thing,
-    t: Ty,
-    all: List<Expression>,
-) -> Result<Thing, Fault>
-    ensures { Gives thing_of result (call_in at (thing_of thing) (type_of t) (expressions_of (map expression_of all))) }
+pub fn call(begin: Start, thing: Thing, t: Ty, all: List<Expression>) -> Result<Thing, Fault>
+    ensures { Gives thing_of result (call_in begin.place (thing_of thing) (type_of t) (expressions_of (map expression_of all))) }
 {
+    let Start { alloc, place, .. } = begin;
     match thing {
         Thing::Object(p) => match object_value(alloc, p)? {
-            Some(e) => node(alloc, t, at, ExpressionNode::CallThrough(e, all)),
-            None => Err(Fault::IllTyped(Rule::Callee, at.at)),
+            Some(e) => node(alloc, t, place, ExpressionNode::CallThrough(e, all)),
+            None => Err(Fault::IllTyped(Rule::Callee, place.at)),
         },
         Thing::Value(e) | Thing::FunctionAt(e) => {
-            node(alloc, t, at, ExpressionNode::CallThrough(e, all))
+            node(alloc, t, place, ExpressionNode::CallThrough(e, all))
         }
-        Thing::Function(_, f, _) => node(alloc, t, at, ExpressionNode::Call(f, all)),
-        Thing::LibraryFunction(_, which) => node(alloc, t, at, ExpressionNode::Library(which, all)),
+        Thing::Function(_, f, _) => node(alloc, t, place, ExpressionNode::Call(f, all)),
+        Thing::LibraryFunction(_, which) => {
+            node(alloc, t, place, ExpressionNode::Library(which, all))
+        }
     }
 }

@@ -1,4 +1,4 @@
-//! Members of structures (C99 6.5.2.3). Their names stand at `named`.
+//! Members of structures (C99 6.5.2.3).
 
 ghost use Rattle.std.specs.Prelude.{◌≡◌, MatchOption, None, Some, map, slice_get};
 ghost use Rattle.c_types.specs.Views.{field_of, records_of, type_of};
@@ -8,8 +8,9 @@ ghost use Rattle.c_annotated.specs.Views.{expression_of, path_of, thing_of};
 ghost use Rattle.c_nodes.specs.Gives.{Gives};
 
 use crate::fault::Fault;
-use crate::making::{misplaced, way};
-use c_annotated::{Expression, Path, PathNode, Thing};
+use crate::making::{Start, Value, misplaced, way};
+use c_annotated::{Path, PathNode, Thing};
+use c_ast::Spelling;
 use c_types::{Field, Records, Ty, copy};
 use lay_base::{Boxed, Place, Rule, boxed};
 use std::alloc::Global;
@@ -42,17 +43,16 @@ fn field_of_record<'a>(records: &'a Records, r: usize, x: &[u8]) -> Option<(usiz
 fn field(
     alloc: Global,
     records: &Records,
-    named: u32,
     at: Place,
+    x: &Spelling,
     p: Boxed<Path>,
     r: usize,
-    x: &[u8],
 ) -> Result<Thing, Fault>
-    ensures { Gives thing_of result (member_to named at (path_of p) r (field_in (slice_get (records_of records.now) r) x.now)) }
+    ensures { Gives thing_of result (member_to x.now.from at (path_of p) r (field_in (slice_get (records_of records.now) r) x.now.text)) }
 {
-    match field_of_record(records, r, x) {
+    match field_of_record(records, r, x.text.as_slice()) {
         Some((number, t)) => way(alloc, copy(alloc, t)?, at, PathNode::Member(p, r, number)),
-        None => Err(Fault::IllTyped(Rule::Member, named)),
+        None => Err(Fault::IllTyped(Rule::Member, x.from)),
     }
 }
 
@@ -61,43 +61,42 @@ fn member(
     alloc: Global,
     records: &Records,
     count: usize,
-    named: u32,
     at: Place,
+    x: &Spelling,
     p: Boxed<Path>,
-    x: &[u8],
 ) -> Result<Thing, Fault>
-    ensures { Gives thing_of result (member_of_type (records_of records.now) count named at (path_of p) (type_of_path (path_of p)) x.now) }
+    ensures { Gives thing_of result
+        (member_of_type (records_of records.now) count x.now.from at (path_of p) (type_of_path (path_of p)) x.now.text) }
 {
     match &p.get().ty {
         Ty::Record(r) => {
             let r = *r;
             if r < count {
-                field(alloc, records, named, at, p, r, x)
+                field(alloc, records, at, x, p, r)
             } else {
-                Err(Fault::IllTyped(Rule::Incomplete, named))
+                Err(Fault::IllTyped(Rule::Incomplete, x.from))
             }
         }
-        _ => Err(Fault::IllTyped(Rule::Member, named)),
+        _ => Err(Fault::IllTyped(Rule::Member, x.from)),
     }
 }
 
-/// A member of what stands there, by `.`.
+/// A member of what stands there, by `.`. `count` records are complete where that stands.
 #[tactic(auto, unfolding(c_erasure::specs::Checking::Nodes::dot_in))]
 pub fn dot(
     alloc: Global,
     records: &Records,
     count: usize,
-    named: u32,
     at: Place,
+    x: &Spelling,
     thing: Thing,
-    x: &[u8],
 ) -> Result<Thing, Fault>
-    ensures { Gives thing_of result (dot_in (records_of records.now) count named at (thing_of thing) x.now) }
+    ensures { Gives thing_of result (dot_in (records_of records.now) count x.now.from at (thing_of thing) x.now.text) }
 {
     match thing {
-        Thing::Object(p) => member(alloc, records, count, named, at, p, x),
+        Thing::Object(p) => member(alloc, records, count, at, x, p),
         thing => {
-            let (rule, there) = misplaced(&thing, Rule::Member, named, at.at);
+            let (rule, there) = misplaced(&thing, Rule::Member, x.from, at.at);
             Err(Fault::IllTyped(rule, there))
         }
     }
@@ -105,31 +104,17 @@ pub fn dot(
 
 /// A member of what a pointer points to, by `->`.
 #[tactic(auto, unfolding(c_erasure::specs::Checking::Nodes::arrow_in))]
-pub fn arrow(
-    alloc: Global,
-    records: &Records,
-    count: usize,
-    named: u32,
-    at: Place,
-    e: Boxed<Expression>,
-    x: &[u8],
-) -> Result<Thing, Fault>
-    ensures { Gives thing_of result (arrow_in (records_of records.now) count named at (expression_of e) x.now) }
+pub fn arrow(records: &Records, begin: Start, x: &Spelling, e: Value) -> Result<Thing, Fault>
+    ensures { Gives thing_of result (arrow_in (records_of records.now) begin.count x.now.from begin.place (expression_of e) x.now.text) }
 {
+    let Start { alloc, place, .. } = begin;
     match &e.get().ty {
         Ty::Pointer(to) => {
             let ty = copy(alloc, to.get())?;
             let node = PathNode::Deref(e);
-            let p = boxed(
-                alloc,
-                Path {
-                    ty,
-                    place: at,
-                    node,
-                },
-            )?;
-            member(alloc, records, count, named, at, p, x)
+            let p = boxed(alloc, Path { ty, place, node })?;
+            member(alloc, records, begin.count, place, x, p)
         }
-        _ => Err(Fault::IllTyped(Rule::Member, named)),
+        _ => Err(Fault::IllTyped(Rule::Member, x.from)),
     }
 }

@@ -9,11 +9,11 @@ ghost use Rattle.c_nodes.specs.Gives.{Gives};
 ghost use Rattle.c_nodes.specs.OperatorNodes.Parts.{ArrayGives};
 
 use crate::fault::Fault;
-use crate::making::{convert_to_kind, way};
+use crate::making::{Start, Value, convert_to_kind, way};
 use c_annotated::{Expression, ExpressionNode, Path, PathNode, Thing};
 use c_typed::{PointerOp, is_integer, points_to_object, promoting};
 use c_types::{Ty, copy};
-use lay_base::{Boxed, NoMemory, Place, Rule, boxed};
+use lay_base::{Boxed, NoMemory, Rule, boxed};
 use std::alloc::Global;
 
 /// What is subscripted.
@@ -43,7 +43,7 @@ pub fn array_of(alloc: Global, thing: Thing) -> Result<Subscripted, NoMemory>
 
 /// A value converted by the integer promotions (C99 6.3.1.1), where it is a number.
 #[tactic(auto, using(crate::proofs::OperatorNodes::Promoted::promoted_number))]
-pub fn promote(alloc: Global, x: Boxed<Expression>) -> Result<Boxed<Expression>, NoMemory>
+pub fn promote(alloc: Global, x: Value) -> Result<Value, NoMemory>
     ensures { IfOk result (λ e. expression_of e ≡ promoted_value (expression_of x)) }
 {
     match promoting(&x.get().ty) {
@@ -54,52 +54,36 @@ pub fn promote(alloc: Global, x: Boxed<Expression>) -> Result<Boxed<Expression>,
 
 /// An element of an array object. The bracket stands at `left`.
 #[tactic(auto, unfolding(c_erasure::specs::Checking::Nodes::element_in))]
-pub fn element(
-    alloc: Global,
-    left: u32,
-    at: Place,
-    p: Boxed<Path>,
-    t: Ty,
-    i: Boxed<Expression>,
-) -> Result<Thing, Fault>
-    ensures { Gives thing_of result (element_in left at (path_of p, type_of t) (expression_of i)) }
+pub fn element(begin: Start, left: u32, p: Boxed<Path>, t: Ty, i: Value) -> Result<Thing, Fault>
+    ensures { Gives thing_of result (element_in left begin.place (path_of p, type_of t) (expression_of i)) }
 {
     if is_integer(&i.get().ty) {
-        let i = promote(alloc, i)?;
-        way(alloc, t, at, PathNode::Element(p, i))
+        let i = promote(begin.alloc, i)?;
+        way(begin.alloc, t, begin.place, PathNode::Element(p, i))
     } else {
         Err(Fault::IllTyped(Rule::Operands, left))
     }
 }
 
 /// A pointer, and a number in brackets.
-fn pointer_first(
-    alloc: Global,
-    at: Place,
-    e: Boxed<Expression>,
-    i: Boxed<Expression>,
-) -> Result<Thing, Fault>
-    ensures { Gives thing_of result (index_to at (expression_of e) (expression_of i) (expression_type (expression_of e))) }
+fn pointer_first(begin: Start, e: Value, i: Value) -> Result<Thing, Fault>
+    ensures { Gives thing_of result (index_to begin.place (expression_of e) (expression_of i) (expression_type (expression_of e))) }
 {
     match &e.get().ty {
         Ty::Pointer(t) => {
-            let t = copy(alloc, t.get())?;
-            let i = promote(alloc, i)?;
-            way(alloc, t, at, PathNode::Index(e, i))
+            let t = copy(begin.alloc, t.get())?;
+            let i = promote(begin.alloc, i)?;
+            way(begin.alloc, t, begin.place, PathNode::Index(e, i))
         }
-        _ => Err(Fault::IllTyped(Rule::Operands, at.at)),
+        _ => Err(Fault::IllTyped(Rule::Operands, begin.place.at)),
     }
 }
 
 /// A number, and a pointer in brackets.
-fn number_first(
-    alloc: Global,
-    at: Place,
-    i: Boxed<Expression>,
-    e: Boxed<Expression>,
-) -> Result<Thing, Fault>
-    ensures { Gives thing_of result (turned_to at (expression_of i) (expression_of e) (expression_type (expression_of e))) }
+fn number_first(begin: Start, i: Value, e: Value) -> Result<Thing, Fault>
+    ensures { Gives thing_of result (turned_to begin.place (expression_of i) (expression_of e) (expression_type (expression_of e))) }
 {
+    let Start { alloc, place, .. } = begin;
     match &e.get().ty {
         Ty::Pointer(t) => {
             let t = copy(alloc, t.get())?;
@@ -111,32 +95,25 @@ fn number_first(
                 Expression {
                     ty,
                     note: None,
-                    place: at,
+                    place,
                     node,
                 },
             )?;
-            way(alloc, t, at, PathNode::Deref(sum))
+            way(alloc, t, place, PathNode::Deref(sum))
         }
-        _ => Err(Fault::IllTyped(Rule::Operands, at.at)),
+        _ => Err(Fault::IllTyped(Rule::Operands, place.at)),
     }
 }
 
 /// A subscript on a pointer, in either order. The bracket stands at `left`.
 #[tactic(auto, unfolding(c_erasure::specs::Checking::Nodes::index_in))]
-pub fn index(
-    alloc: Global,
-    count: usize,
-    left: u32,
-    at: Place,
-    x: Boxed<Expression>,
-    y: Boxed<Expression>,
-) -> Result<Thing, Fault>
-    ensures { Gives thing_of result (index_in count left at (expression_of x) (expression_of y)) }
+pub fn index(begin: Start, left: u32, x: Value, y: Value) -> Result<Thing, Fault>
+    ensures { Gives thing_of result (index_in begin.count left begin.place (expression_of x) (expression_of y)) }
 {
-    if points_to_object(count, &x.get().ty) && is_integer(&y.get().ty) {
-        pointer_first(alloc, at, x, y)
-    } else if is_integer(&x.get().ty) && points_to_object(count, &y.get().ty) {
-        number_first(alloc, at, x, y)
+    if points_to_object(begin.count, &x.get().ty) && is_integer(&y.get().ty) {
+        pointer_first(begin, x, y)
+    } else if is_integer(&x.get().ty) && points_to_object(begin.count, &y.get().ty) {
+        number_first(begin, x, y)
     } else {
         Err(Fault::IllTyped(Rule::Operands, left))
     }

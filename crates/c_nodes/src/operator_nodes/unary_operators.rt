@@ -1,54 +1,49 @@
-//! Unary operators and casts (C99 6.5.2.4, 6.5.3, 6.5.4). An operand begins at `from`, and `count` records are complete there.
+//! Unary operators and casts (C99 6.5.2.4, 6.5.3, 6.5.4). An operand begins at `from`.
 
-ghost use Rattle.std.specs.Prelude.{◌≡◌, nat_lt};
-ghost use Rattle.c_types.specs.Objects.{parts};
+ghost use Rattle.std.specs.Prelude.{◌≡◌};
 ghost use Rattle.c_types.specs.Views.{type_of};
 ghost use Rattle.c_erasure.specs.Checking.Nodes.{address_in, cast_in, deref_in, not_in, step_in, unary_in};
 ghost use Rattle.c_annotated.specs.Views.{expression_of, thing_of};
 ghost use Rattle.c_nodes.specs.Gives.{Gives};
 
 use crate::fault::Fault;
-use crate::making::{misplaced, node, pointer_to, way};
+use crate::making::{Start, Value, misplaced, node, pointer_to, way};
 use crate::operator_nodes::subscripts::promote;
 use crate::sizes::may_be_pointed_to;
-use c_annotated::{Expression, ExpressionNode, PathNode, Thing, is_null};
+use c_annotated::{ExpressionNode, PathNode, Thing, is_null};
 use c_typed::{StepOp, UnaryOp, casts, is_function, is_scalar, is_stepped, promoted_kind};
-use c_types::{IntKind, Ty, copy, is_object, parts};
-use lay_base::{Boxed, Place, Rule};
+use c_types::{IntKind, Ty, copy, is_object};
+use lay_base::{Place, Rule};
 use std::alloc::Global;
 
-/// `++` or `--`, which stands at `op_at`, before its operand or after it.
+/// `++` or `--`, which stands at `at`, before its operand or after it.
 #[tactic(auto, unfolding(c_erasure::specs::Checking::Nodes::step_in))]
 pub fn step(
-    alloc: Global,
-    count: usize,
+    begin: Start,
     from: u32,
-    op_at: u32,
-    at: Place,
+    at: u32,
     op: StepOp,
     before: bool,
     thing: Thing,
 ) -> Result<Thing, Fault>
-    ensures { Gives thing_of result (step_in count from op_at at op before (thing_of thing)) }
+    ensures { Gives thing_of result (step_in begin.count from at begin.place op before (thing_of thing)) }
 {
     match thing {
         Thing::Object(p) => {
-            if is_stepped(count, &p.get().ty) {
-                let t = copy(alloc, &p.get().ty)?;
-                node(alloc, t, at, ExpressionNode::Step(op, before, p))
+            if is_stepped(begin.count, &p.get().ty) {
+                let t = copy(begin.alloc, &p.get().ty)?;
+                node(
+                    begin.alloc,
+                    t,
+                    begin.place,
+                    ExpressionNode::Step(op, before, p),
+                )
             } else {
-                Err(Fault::IllTyped(Rule::Operands, op_at))
+                Err(Fault::IllTyped(Rule::Operands, at))
             }
         }
         _ => Err(Fault::IllTyped(Rule::Lvalue, from)),
     }
-}
-
-/// Whether a pointer to a type is within the limit of types.
-fn is_pointed_to(t: &Ty) -> bool
-    ensures { result ≡ nat_lt (parts (type_of t.now)) 1024 }
-{
-    parts(t) < 1024
 }
 
 /// `&`
@@ -58,7 +53,7 @@ pub fn address(alloc: Global, from: u32, at: Place, thing: Thing) -> Result<Thin
 {
     match thing {
         Thing::Object(p) => {
-            if is_pointed_to(&p.get().ty) {
+            if may_be_pointed_to(&p.get().ty) {
                 let t = pointer_to(alloc, copy(alloc, &p.get().ty)?)?;
                 node(alloc, t, at, ExpressionNode::AddressOf(p))
             } else {
@@ -80,27 +75,27 @@ pub fn address(alloc: Global, from: u32, at: Place, thing: Thing) -> Result<Thin
 
 /// `*`
 #[tactic(auto, unfolding(c_erasure::specs::Checking::Nodes::deref_in))]
-pub fn deref(alloc: Global, count: usize, at: Place, e: Boxed<Expression>) -> Result<Thing, Fault>
-    ensures { Gives thing_of result (deref_in count at (expression_of e)) }
+pub fn deref(begin: Start, e: Value) -> Result<Thing, Fault>
+    ensures { Gives thing_of result (deref_in begin.count begin.place (expression_of e)) }
 {
     match &e.get().ty {
         Ty::Pointer(to) => {
             if is_function(to.get()) {
                 Ok(Thing::FunctionAt(e))
-            } else if is_object(count, to.get()) {
-                let t = copy(alloc, to.get())?;
-                way(alloc, t, at, PathNode::Deref(e))
+            } else if is_object(begin.count, to.get()) {
+                let t = copy(begin.alloc, to.get())?;
+                way(begin.alloc, t, begin.place, PathNode::Deref(e))
             } else {
-                Err(Fault::IllTyped(Rule::Incomplete, at.at))
+                Err(Fault::IllTyped(Rule::Incomplete, begin.place.at))
             }
         }
-        _ => Err(Fault::IllTyped(Rule::Operands, at.at)),
+        _ => Err(Fault::IllTyped(Rule::Operands, begin.place.at)),
     }
 }
 
 /// `+`, `-` or `~`
 #[tactic(auto, unfolding(c_erasure::specs::Checking::Nodes::unary_in))]
-pub fn unary(alloc: Global, at: Place, op: UnaryOp, x: Boxed<Expression>) -> Result<Thing, Fault>
+pub fn unary(alloc: Global, at: Place, op: UnaryOp, x: Value) -> Result<Thing, Fault>
     ensures { Gives thing_of result (unary_in at op (expression_of x)) }
 {
     match &x.get().ty {
@@ -115,7 +110,7 @@ pub fn unary(alloc: Global, at: Place, op: UnaryOp, x: Boxed<Expression>) -> Res
 
 /// `!`
 #[tactic(auto, unfolding(c_erasure::specs::Checking::Nodes::not_in))]
-pub fn not(alloc: Global, at: Place, x: Boxed<Expression>) -> Result<Thing, Fault>
+pub fn not(alloc: Global, at: Place, x: Value) -> Result<Thing, Fault>
     ensures { Gives thing_of result (not_in at (expression_of x)) }
 {
     if is_scalar(&x.get().ty) {
@@ -127,7 +122,7 @@ pub fn not(alloc: Global, at: Place, x: Boxed<Expression>) -> Result<Thing, Faul
 
 /// A cast.
 #[tactic(auto, unfolding(c_erasure::specs::Checking::Nodes::cast_in))]
-pub fn cast(alloc: Global, at: Place, t: Ty, x: Boxed<Expression>) -> Result<Thing, Fault>
+pub fn cast(alloc: Global, at: Place, t: Ty, x: Value) -> Result<Thing, Fault>
     ensures { Gives thing_of result (cast_in at (type_of t) (expression_of x)) }
 {
     if casts(&x.get().ty, is_null(x.get()), &t) {

@@ -1,22 +1,19 @@
 //! What a unit has beside trees, with other numbers.
 
 ghost use Rattle.std.specs.Prelude.{◌≡◌, map};
-ghost use Rattle.std.specs.Option.{option_map};
 ghost use Rattle.c_numbers.specs.NewNumbers.Numbers.{renaming_of};
-ghost use Rattle.c_numbers.specs.NewNumbers.Parts.{function_in, initial_in, local_in, mention_in, object_in, value_in};
-ghost use Rattle.c_typed.specs.Mapped.{mapped_statement};
+ghost use Rattle.c_numbers.specs.NewNumbers.Parts.{function_in, initial_in, local_in, mention_in, object_in};
 ghost use Rattle.c_typed.specs.Programs.{data_of};
-ghost use Rattle.c_typed.specs.Views.{statement_of};
 
 use crate::new_numbers::numbers::Renumbering;
 use crate::new_numbers::statements::renumber_statement;
-use c_typed::{Function, Initial, InitialValue, Local, Mention, Object, Statement};
+use c_typed::{Function, Initial, InitialValue, Local, Mention, Object};
 use lay_base::List;
 
-fn value(to: &Renumbering, value: &mut InitialValue)
-    ensures { value.new ≡ value_in (renaming_of to.now) value.old }
+fn initial(to: &Renumbering, it: &mut Initial)
+    ensures { it.new ≡ initial_in (renaming_of to.now) it.old }
 {
-    match value {
+    match &mut it.value {
         InitialValue::Number(_, _) => {}
         InitialValue::Address(t, n, _) => {
             *t = to.types.at(*t);
@@ -29,12 +26,6 @@ fn value(to: &Renumbering, value: &mut InitialValue)
     }
 }
 
-fn initial(to: &Renumbering, it: &mut Initial)
-    ensures { it.new ≡ initial_in (renaming_of to.now) it.old }
-{
-    value(to, &mut it.value);
-}
-
 fn initials(to: &Renumbering, all: &mut List<Initial>)
     ensures { all.new ≡ map (initial_in (renaming_of to.now)) all.old }
 {
@@ -43,20 +34,14 @@ fn initials(to: &Renumbering, all: &mut List<Initial>)
     }
 }
 
-fn optional_initials(to: &Renumbering, all: &mut Option<List<Initial>>)
-    ensures { all.new ≡ option_map (map (initial_in (renaming_of to.now))) all.old }
-{
-    if let Some(all) = all {
-        initials(to, all);
-    }
-}
-
 /// Gives an object other numbers.
 pub fn renumber_object(to: &Renumbering, o: &mut Object)
     ensures { o.new ≡ object_in (renaming_of to.now) o.old }
 {
     o.ty = to.types.at(o.ty);
-    optional_initials(to, &mut o.initial);
+    if let Some(all) = &mut o.initial {
+        initials(to, all);
+    }
 }
 
 fn local(to: &Renumbering, it: &mut Local)
@@ -73,14 +58,6 @@ fn locals(to: &Renumbering, all: &mut List<Local>)
     }
 }
 
-fn body(to: &Renumbering, it: &mut Option<Statement>)
-    ensures { option_map statement_of it.new ≡ option_map (mapped_statement (renaming_of to.now)) (option_map statement_of it.old) }
-{
-    if let Some(it) = it {
-        renumber_statement(to, it);
-    }
-}
-
 /// Gives a function other numbers.
 pub fn renumber_function(to: &Renumbering, f: &mut Function)
     ensures { data_of f.new ≡ function_in (renaming_of to.now) (data_of f.old) }
@@ -88,7 +65,9 @@ pub fn renumber_function(to: &Renumbering, f: &mut Function)
     f.ty = to.types.at(f.ty);
     locals(to, &mut f.parameters);
     locals(to, &mut f.locals);
-    body(to, &mut f.body);
+    if let Some(body) = &mut f.body {
+        renumber_statement(to, body);
+    }
 }
 
 /// Gives the type of a mention another number.

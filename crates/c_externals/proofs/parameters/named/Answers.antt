@@ -2,7 +2,7 @@ use Rattle.std.proofs.Common.{◌∙◌, map, sym}
 use Rattle.std.proofs.lemmas.List.{length-map}
 use Rattle.c_types.specs.Views.{type_of}
 use Rattle.c_ast.specs.Views.{parameter_of}
-use Rattle.c_externals.proofs.Named.{unlike}
+use Rattle.c_externals.proofs.NamedParameters.{unlike}
 use Rattle.c_externals.proofs.parameters.named.Goals as goal
 
 pub returns-then-all-types : goal.returns-then-all-types

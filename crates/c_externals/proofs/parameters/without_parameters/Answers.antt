@@ -1,5 +1,5 @@
 use Rattle.std.proofs.Common.{◌∙◌, sym}
-use Rattle.c_externals.proofs.Named.{with_types}
+use Rattle.c_externals.proofs.NamedParameters.{with_types}
 use Rattle.c_externals.proofs.parameters.without_parameters.Goals as goal
 
 pub returns-else-is_empty : goal.returns-else-is_empty

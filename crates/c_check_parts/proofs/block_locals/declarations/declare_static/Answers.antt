@@ -21,8 +21,8 @@ returns c =
     let one = standing c.add_object.new.file c.add_object.new.block c.args.locals.now in
     let found = file_of c.constants_if_any.new.file in
     static_found s d c.args.x.now (type_of c.args.t.now) c.place_in-place.result one (initializer_of c.in_ok-initial.initial) found (object_of c.in_ok-object.object)
-    (c.place_in-place.ensures ∙ ap (λ v. place_in v c.first_of_declarator.result) (c.scope_in.ensures c.args.file.now)
-    ∙ ap (place_in s) (c.first_of_declarator.ensures c.args.x.now.from))
+    (c.place_in-place.ensures ∙ ap (λ v. place_in v c.first_of_declarator-at.result) (c.scope_in.ensures c.args.file.now)
+    ∙ ap (place_in s) (c.first_of_declarator-at.ensures c.args.x.now.from))
     (c.in_ok-n.ensures.added c.args.locals.now)
     (ap (λ v. constants_if_any d.value v (type_of c.args.t.now)) (sym (c.scope_in-2.ensures c.add_object.new.file)) ∙ c.in_ok-initial.ensures)
     c.in_ok-object.ensures
