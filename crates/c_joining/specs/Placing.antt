@@ -23,3 +23,8 @@ module _ {A : Type 0} (is_defined : A → Bool) where
   abbrev pub placed : List (List ℕ) → List A → List (List ℕ × A) → List A
   placed keys all [] = all
   placed keys all (p ∷ more) = placed keys (place all (position keys p.0) p.1) more
+
+  -- the same, of things to the numbers that these are given from 0 on
+  abbrev pub placed_by : (number : ℕ → ℕ) → List A → List A → List A
+  placed_by number all [] = all
+  placed_by number all (x ∷ more) = placed_by (λ n. number (suc n)) (place all (number 0) x) more

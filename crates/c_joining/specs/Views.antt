@@ -1,26 +1,17 @@
--- What the tables of the program stand for, and what units have given to the program so far.
-use Rattle.std.specs.Prelude.{ℕ, ◌+◌, List, [], ◌++◌, map}
-use Rattle.c_joining.specs.declared.joining.Joined.{Joined}
-use Rattle.c_joining.specs.declared.tables.Tables as declared
+-- What units have given to the program so far.
+use Rattle.std.specs.Prelude.{ℕ, ◌+◌, List, [], ◌++◌}
 use Rattle.c_joining.specs.Joining.{Tables, functions_of, is_function_defined, is_object_defined, mentions_of, objects_of}
 use Rattle.c_joining.specs.Placing.{placed}
 use Rattle.c_typed.specs.declared.program.Mention.{Mention}
 use Rattle.c_typed.specs.declared.program.Object.{Object}
-use Rattle.c_typed.specs.Programs.{FunctionData, ProgramData, UnitData, data_of}
+use Rattle.c_typed.specs.Programs.{FunctionData, ProgramData, UnitData}
 use Rattle.c_types.specs.Types.{CType, Record}
-use Rattle.c_types.specs.Views.{type_of}
-
-abbrev pub tables_of : declared.Tables → Tables
-tables_of t = record { tags = t.tags; types = map type_of t.types; objects = t.objects; functions = t.functions }
 
 pub record JoinedData : Type 0 where
   pub objects : List Object
   pub functions : List FunctionData
   pub mentions : List Mention
   pub nodes : ℕ
-
-abbrev pub joined_of : Joined → JoinedData
-joined_of j = record { objects = j.objects.items; functions = map data_of j.functions.items; mentions = j.mentions; nodes = j.nodes }
 
 abbrev pub nothing : JoinedData
 nothing = record { objects = []; functions = []; mentions = []; nodes = 0 }

@@ -11,6 +11,7 @@ pub mod NameTroubles
 pub mod OneProgram
 pub mod OpenStructures
 pub mod Repeats
+pub mod TablesOfUnits
 pub mod TagClashes
 pub mod TextLengths
 pub mod Unlike

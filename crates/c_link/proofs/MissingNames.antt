@@ -1,5 +1,5 @@
 -- What is looked for among the keys of all references is what is used and not defined.
-use Rattle.std.proofs.Common.{◌≡◌, ℕ, ◌+◌, ◌<◌, ◌≤◌, ◌==◌, length, Bool, true, false, ◌&&◌, ◌||◌, List, [], ◌∷◌, ◌++◌, Option, All, fold, map, refl, sym, ap}
+use Rattle.std.proofs.Common.{◌≡◌, ℕ, ◌+◌, ◌==◌, length, Bool, true, false, ◌&&◌, ◌||◌, List, [], ◌∷◌, ◌++◌, Option, All, fold, map, refl, sym, ap}
 use Rattle.std.proofs.Common.{◌∙◌}
 use Rattle.std.specs.Prelude.{if◌then◌else◌, None, Some, is_some, nat_lt, MatchOption}
 use Rattle.std.specs.List.{list_any}
@@ -62,12 +62,6 @@ among_is keys x = go (nat_lt (position keys x) (length keys)) refl
     go : (b : Bool) → nat_lt (position keys x) (length keys) ≡ b → b ≡ is_among keys x
     go true e = sym (found keys x (ltb-true (position keys x) (length keys) e))
     go false e = sym (absent keys x (ltb-false (position keys x) (length keys) e))
-
-pub stays_with : (keys : List (List ℕ)) (x : List ℕ) → position keys x < length keys → keys ≡ with_key keys x
-stays_with keys x h = ap (λ b. if b then keys else keys ++ x ∷ []) (sym (found keys x h))
-
-pub grows_with : (keys : List (List ℕ)) (x : List ℕ) → length keys ≤ position keys x → keys ++ x ∷ [] ≡ with_key keys x
-grows_with keys x h = ap (λ b. if b then keys else keys ++ x ∷ []) (sym (absent keys x h))
 
 -- ---- references
 

@@ -9,3 +9,4 @@ pub mod Programs
 pub mod Repeats
 pub mod Texts
 pub mod TreeUses
+pub mod Views

@@ -9,9 +9,10 @@ ghost use Rattle.c_typed.specs.Programs.{unit_data};
 ghost use Rattle.c_types.specs.Views.{field_of, record_of, records_of};
 ghost use Rattle.std.specs.Option.{option_copied, option_map};
 
+use crate::joining::put;
+use crate::records::all_records;
 use crate::troubles::{Trouble, add_trouble, earliest};
-use c_joining::{all_records, number_of, put};
-use c_numbers::KeyTable;
+use c_numbers::NameTable;
 use c_typed::Unit;
 use c_types::{Field, Record, same};
 use lay_base::{List, NoMemory};
@@ -54,13 +55,13 @@ fn add_clash(
 }
 
 /// The troubles with the tags of some records, in their order.
-fn tag_troubles(alloc: Global, tags: &KeyTable, all: &[Record]) -> Result<List<Trouble>, NoMemory>
+fn tag_troubles(alloc: Global, tags: &NameTable, all: &[Record]) -> Result<List<Trouble>, NoMemory>
     ensures { IfOk result (λ troubles. map trouble_of troubles ≡ clashes tags.now [] (records_of all.now)) }
 {
     let mut troubles = List::new(alloc);
     let mut firsts: Vec<&Record> = Vec::new(alloc);
     for r in all {
-        let number = number_of(alloc, tags, &r.tag)?;
+        let number = tags.number(r.tag.as_slice());
         add_clash(alloc, &mut troubles, firsts.get(number).copied(), r)?;
         put(&mut firsts, number, false, r)?;
     }
@@ -70,13 +71,12 @@ fn tag_troubles(alloc: Global, tags: &KeyTable, all: &[Record]) -> Result<List<T
 /// The earliest trouble with a tag among the units, if there is one. The tags are those of the units.
 pub fn tag_clash(
     alloc: Global,
-    tags: &KeyTable,
+    tags: &NameTable,
     units: &[Unit],
 ) -> Result<Option<Trouble>, NoMemory>
     requires { tags.now ≡ all_tags (map unit_data units.now) }
     ensures { IfOk result (λ found. MatchOption found (HasNone (IsTagClash (map unit_data units.now))) (λ t. IsEarliest (IsTagClash (map unit_data units.now)) (trouble_of t))) }
 {
     let all = all_records(alloc, tags, units)?;
-    let troubles = tag_troubles(alloc, tags, all.as_slice())?;
-    Ok(earliest(troubles))
+    Ok(earliest(tag_troubles(alloc, tags, all.as_slice())?))
 }

@@ -2,7 +2,7 @@
 
 ghost use Rattle.std.specs.Prelude.{◌≡◌, ◌+◌, ◌<◌, ◌^◌, IfOk, OnOk, map};
 ghost use Rattle.std.specs.Option.{option_map};
-ghost use Rattle.c_link.specs.Texts.{rounded, text_bytes, texts_in, texts_in_all, texts_in_arms, texts_in_functions, texts_in_initial};
+ghost use Rattle.c_link.specs.Texts.{rounded, texts_in, texts_in_all, texts_in_arms, texts_in_functions, texts_in_initial, text_bytes};
 ghost use Rattle.c_numbers.specs.NewNumbers.Nodes.{arm_of};
 ghost use Rattle.c_typed.specs.Programs.{data_of};
 ghost use Rattle.c_typed.specs.Views.{arms_of, initializer_of, part_value_of, statement_of, statements_of};
@@ -80,19 +80,6 @@ fn in_arms(lengths: &mut List<usize>, arms: &[Arm]) -> Result<(), NoMemory>
     Ok(())
 }
 
-/// The lengths of those of functions.
-fn lengths_in(alloc: Global, functions: &[Function]) -> Result<List<usize>, NoMemory>
-    ensures { IfOk result (λ lengths. rounded lengths ≡ texts_in_functions (map data_of functions.now)) }
-{
-    let mut lengths = List::new(alloc);
-    for f in functions {
-        if let Some(body) = &f.body {
-            in_statement(&mut lengths, body)?;
-        }
-    }
-    Ok(lengths)
-}
-
 /// The sum of some lengths, each rounded up.
 fn sum_of(lengths: &[usize]) -> u128
     ensures value { result ≡ rounded lengths.now }
@@ -110,6 +97,11 @@ pub fn texts_in_functions(alloc: Global, functions: &[Function]) -> Result<u128,
     ensures value { IfOk result (λ n. n ≡ texts_in_functions (map data_of functions.now)) }
     ensures fits { IfOk result (λ n. n < 2 ^ 127 + 2 ^ 66) }
 {
-    let lengths = lengths_in(alloc, functions)?;
+    let mut lengths = List::new(alloc);
+    for f in functions {
+        if let Some(body) = &f.body {
+            in_statement(&mut lengths, body)?;
+        }
+    }
     Ok(sum_of(lengths.as_slice()))
 }

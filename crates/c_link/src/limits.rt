@@ -3,7 +3,7 @@
 ghost use Rattle.std.specs.Prelude.{◌≡◌, ◌+◌, ◌≤◌, ◌^◌, All, IfOk, fold, length, map, get_or};
 ghost use Rattle.std.specs.Option.{option_map};
 ghost use Rattle.c_link.specs.Counting.{AreLocalsMeasured, AreMeasured, IsMeasured, passed_of};
-ghost use Rattle.c_link.specs.Gaps.{first_limit, first_past, global_bytes, limits, local_bytes, object_bytes, or_limit, past_alone};
+ghost use Rattle.c_link.specs.Gaps.{first_limit, first_past, limits, local_bytes, object_bytes, or_limit, past_alone};
 ghost use Rattle.c_typed.specs.Programs.{data_of, program_data};
 ghost use Rattle.c_types.specs.Layouts.{size_of};
 ghost use Rattle.c_types.specs.Types.{void};
@@ -106,15 +106,6 @@ fn object_bytes(p: &Typed, objects: &[Object]) -> u128
     bytes
 }
 
-/// And of the strings that initialize the locals of functions.
-fn global_bytes(alloc: Global, p: &Typed) -> Result<u128, NoMemory>
-    requires { AreMeasured (program_data p.now) }
-    ensures { IfOk result (λ n. n ≡ global_bytes (program_data p.now)) }
-{
-    let texts = texts_in_functions(alloc, p.functions.as_slice())?;
-    Ok(object_bytes(p, p.objects.as_slice()) + texts)
-}
-
 /// A limit that is passed, where a number passes it, or a later one.
 fn first_of(which: LimitKind, counted: Option<u128>, later: Option<Passed>) -> Option<Passed>
     ensures { option_map passed_of result ≡ or_limit which counted (option_map passed_of later) }
@@ -130,7 +121,8 @@ pub fn limit_past(alloc: Global, p: &Typed) -> Result<Option<Passed>, NoMemory>
     requires { AreMeasured (program_data p.now) }
     ensures { IfOk result (λ it. option_map passed_of it ≡ first_limit (program_data p.now) limits) }
 {
-    let bytes = global_bytes(alloc, p)?;
+    let texts = texts_in_functions(alloc, p.functions.as_slice())?;
+    let bytes = object_bytes(p, p.objects.as_slice()) + texts;
     let globals = first_of(LimitKind::Globals, past_alone(16_777_216, bytes), None);
     let frame = frame_past(p, p.functions.as_slice());
     let frame = first_of(LimitKind::Frame, frame, globals);

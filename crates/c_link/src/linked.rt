@@ -1,17 +1,18 @@
 //! The names with linkage of some units (C99 6.2.2).
 
 ghost use Rattle.std.specs.Prelude.{◌≡◌, ◌++◌, ◌∷◌, [], IfOk, OnOk, flat_map, get_or, map};
-ghost use Rattle.c_link.specs.Gaps.{linked_by, linked_function_in, linked_object_in};
+ghost use Rattle.c_link.specs.Gaps.{linked_by};
 ghost use Rattle.c_link.specs.Names.{linked_of};
 ghost use Rattle.c_numbers.specs.NewNumbers.Numbers.{number_at};
 ghost use Rattle.c_numbers.specs.TypeNumbers.Renumbered.{renumbered};
-ghost use Rattle.c_typed.specs.Programs.{data_of, unit_data};
+ghost use Rattle.c_typed.specs.Programs.{unit_data};
 ghost use Rattle.c_types.specs.Types.{void};
 ghost use Rattle.c_types.specs.Views.{type_of};
 
-use c_joining::{copy_of_name, numbers_of_structures};
-use c_numbers::{KeyTable, Numbers, renumbered_type};
-use c_typed::{Function, Object, Unit};
+use crate::records::copy_of_name;
+use crate::tags::numbers_of_structures;
+use c_numbers::{NameTable, Numbers, renumbered_type};
+use c_typed::Unit;
 use c_types::Ty;
 use lay_base::{List, Name, NoMemory, Place, add};
 use std::alloc::Global;
@@ -54,49 +55,9 @@ fn add_linked(
     )
 }
 
-fn add_objects(
-    alloc: Global,
-    records: &Numbers,
-    types: &[Ty],
-    all: &mut List<Linked>,
-    objects: &[Object],
-) -> Result<(), NoMemory>
-    ensures { OnOk result (map linked_of all.new ≡ map linked_of all.old ++ flat_map (linked_object_in (number_at records.now) (map type_of types.now)) objects.now) }
-{
-    for o in objects {
-        if o.linked {
-            let is_defined = o.initial.is_some();
-            add_linked(
-                alloc, records, types, all, &o.name, o.place, o.ty, is_defined,
-            )?;
-        }
-    }
-    Ok(())
-}
-
-fn add_functions(
-    alloc: Global,
-    records: &Numbers,
-    types: &[Ty],
-    all: &mut List<Linked>,
-    functions: &[Function],
-) -> Result<(), NoMemory>
-    ensures { OnOk result (map linked_of all.new ≡ map linked_of all.old ++ flat_map (linked_function_in (number_at records.now) (map type_of types.now)) (map data_of functions.now)) }
-{
-    for f in functions {
-        if f.linked {
-            let is_defined = f.body.is_some();
-            add_linked(
-                alloc, records, types, all, &f.name, f.place, f.ty, is_defined,
-            )?;
-        }
-    }
-    Ok(())
-}
-
 fn add_unit(
     alloc: Global,
-    tags: &KeyTable,
+    tags: &NameTable,
     all: &mut List<Linked>,
     u: &Unit,
 ) -> Result<(), NoMemory>
@@ -104,12 +65,27 @@ fn add_unit(
 {
     let records = numbers_of_structures(alloc, tags, u)?;
     let types = u.types.as_slice();
-    add_objects(alloc, &records, types, all, u.objects.as_slice())?;
-    add_functions(alloc, &records, types, all, u.functions.as_slice())
+    for o in u.objects.as_slice() {
+        if o.linked {
+            let is_defined = o.initial.is_some();
+            add_linked(
+                alloc, &records, types, all, &o.name, o.place, o.ty, is_defined,
+            )?;
+        }
+    }
+    for f in u.functions.as_slice() {
+        if f.linked {
+            let is_defined = f.body.is_some();
+            add_linked(
+                alloc, &records, types, all, &f.name, f.place, f.ty, is_defined,
+            )?;
+        }
+    }
+    Ok(())
 }
 
 /// The names with linkage of the units, in their order, with their types in the program.
-pub fn linked_in(alloc: Global, tags: &KeyTable, units: &[Unit]) -> Result<List<Linked>, NoMemory>
+pub fn linked_in(alloc: Global, tags: &NameTable, units: &[Unit]) -> Result<List<Linked>, NoMemory>
     ensures { IfOk result (λ all. map linked_of all ≡ flat_map (linked_by tags.now) (map unit_data units.now)) }
 {
     let mut all = List::new(alloc);

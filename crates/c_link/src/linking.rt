@@ -1,6 +1,6 @@
 //! The program of units, or their first gap.
 
-ghost use Rattle.std.specs.Prelude.{◌≡◌, ◌↔◌, [], All, IfOk, IsTrue, get_or, map};
+ghost use Rattle.std.specs.Prelude.{◌≡◌, ◌↔◌, All, IsTrue, map};
 ghost use Rattle.c_joining.specs.Joining.{all_tags};
 ghost use Rattle.c_link.specs.Counting.{AreMeasured, IsCountable};
 ghost use Rattle.c_link.specs.Gaps.{Agree, HasMain};
@@ -13,18 +13,18 @@ use crate::gap::Gap;
 use crate::limits::limit_past;
 use crate::linked::linked_in;
 use crate::missing::missing_name;
-use crate::names::{Asked, name_trouble};
+use crate::names::{Asked, name_trouble, names_of};
+use crate::program::join;
 use crate::structures::least_open;
-use crate::tag_names::tags_of;
-use c_joining::{copy_of_name, join};
-use c_numbers::KeyTable;
+use crate::tags::all_tags;
+use c_numbers::NameTable;
 use c_typed::{Typed, Unit};
 use c_types::records_are_complete;
-use lay_base::{List, Name, NoMemory};
+use lay_base::List;
 use std::alloc::Global;
 
 /// Whether the units agree on tags, on types of names, and on what is defined.
-fn agree(alloc: Global, tags: &KeyTable, units: &[Unit]) -> Result<(), Gap>
+fn agree(alloc: Global, tags: &NameTable, units: &[Unit]) -> Result<(), Gap>
     requires { tags.now ≡ all_tags (map unit_data units.now) }
     ensures { AgreeGives (map unit_data units.now) result }
 {
@@ -32,22 +32,14 @@ fn agree(alloc: Global, tags: &KeyTable, units: &[Unit]) -> Result<(), Gap>
         return Err(Gap::TagClash(t));
     }
     let linked = linked_in(alloc, tags, units)?;
-    if let Some(t) = name_trouble(alloc, Asked::OneType, units, linked.as_slice())? {
+    let all = linked.as_slice();
+    let names = names_of(alloc, all)?;
+    if let Some(t) = name_trouble(alloc, Asked::OneType, units, &names, all)? {
         return Err(Gap::NameClash(t));
     }
-    match name_trouble(alloc, Asked::OneDefinition, units, linked.as_slice())? {
+    match name_trouble(alloc, Asked::OneDefinition, units, &names, all)? {
         Some(t) => Err(Gap::Twice(t)),
         None => Ok(()),
-    }
-}
-
-/// A copy of the tag with a number; there is none past the list's end.
-fn tag_of(alloc: Global, tags: &[Name], number: usize) -> Result<Name, NoMemory>
-    ensures { IfOk result (λ x. x ≡ get_or tags.now number []) }
-{
-    match tags.get(number) {
-        Some(tag) => copy_of_name(alloc, tag),
-        None => Ok(Name::of(Vec::new(alloc))),
     }
 }
 
@@ -62,14 +54,14 @@ fn has_main(p: &Typed) -> bool
 }
 
 /// Whether all that a program uses is there. Its structures have these tags.
-fn complete(alloc: Global, tags: &[Name], p: &Typed) -> Result<(), Gap>
+fn complete(alloc: Global, tags: &NameTable, p: &Typed) -> Result<(), Gap>
     ensures { CompleteGives tags.now (program_data p.now) result }
 {
     if let Some(t) = missing_name(alloc, p)? {
         return Err(Gap::Missing(t.name));
     }
     if let Some(number) = least_open(alloc, p)? {
-        return Err(Gap::Missing(tag_of(alloc, tags, number)?));
+        return Err(Gap::Missing(tags.name(alloc, number)?));
     }
     if has_main(p) {
         Ok(())
@@ -100,14 +92,14 @@ fn records_are_small(units: &[Unit])
 
 /// The program of units that agree, or what it lacks.
 #[tactic(auto, using(crate::proofs::Lacks::lack_is_gap, crate::proofs::Lacks::within_is_program))]
-fn whole_program(alloc: Global, tags: &[Name], units: List<Unit>) -> Result<Typed, Gap>
+fn whole_program(alloc: Global, tags: &NameTable, units: List<Unit>) -> Result<Typed, Gap>
     requires tags { tags.now ≡ all_tags (map unit_data units) }
     requires agree { Agree (map unit_data units) }
     requires countable { All IsCountable (map unit_data units) }
     ensures { LinkGives (map unit_data units) result }
 {
     records_are_small(units.as_slice());
-    let p = join(alloc, units)?;
+    let p = join(alloc, tags, units)?;
     match complete(alloc, tags, &p) {
         Err(gap) => Err(gap),
         Ok(()) => within_limits(alloc, p),
@@ -119,9 +111,9 @@ pub fn link(alloc: Global, units: List<Unit>) -> Result<Typed, Gap>
     requires { All IsCountable (map unit_data units) }
     ensures { LinkGives (map unit_data units) result }
 {
-    let tags = tags_of(alloc, units.as_slice())?;
-    match agree(alloc, &tags.keys, units.as_slice()) {
+    let tags = all_tags(alloc, units.as_slice())?;
+    match agree(alloc, &tags, units.as_slice()) {
         Err(gap) => Err(gap),
-        Ok(()) => whole_program(alloc, tags.names.as_slice(), units),
+        Ok(()) => whole_program(alloc, &tags, units),
     }
 }

@@ -2,7 +2,7 @@
 
 ghost use Rattle.std.specs.Prelude.{◌≡◌, ◌++◌, true, All, IfOk, IsTrue, MatchOption, OnOk, is_some, map};
 ghost use Rattle.c_link.specs.Clashes.{trouble_of};
-ghost use Rattle.c_link.specs.Gaps.{HasNone, IsEarliest, IsMissing, all_missing, all_references};
+ghost use Rattle.c_link.specs.Gaps.{HasNone, IsEarliest, IsMissing, all_missing};
 ghost use Rattle.c_link.specs.Missing.{functions_nowhere, key_of, keys_of, objects_nowhere};
 ghost use Rattle.c_typed.specs.Programs.{data_of, program_data};
 ghost use Rattle.c_link.specs.TreeUses.Uses.{reference_of};
@@ -17,14 +17,13 @@ use lay_base::{List, NoMemory, copied};
 use std::alloc::Global;
 
 /// The key of a reference.
-fn key_of(alloc: Global, reference: Reference) -> Result<Vec<u64>, NoMemory>
-    ensures { IfOk result (λ key. key.items ≡ key_of (reference_of reference)) }
+fn key_of(reference: Reference) -> [u64; 2]
+    ensures { result ≡ key_of (reference_of reference) }
 {
-    let key = match reference {
+    match reference {
         Reference::Object(n) => [0, n as u64],
         Reference::Function(f) => [1, f as u64],
-    };
-    copied(alloc, &key)
+    }
 }
 
 fn keys_of(alloc: Global, all: &[Reference]) -> Result<KeyTable, NoMemory>
@@ -32,25 +31,16 @@ fn keys_of(alloc: Global, all: &[Reference]) -> Result<KeyTable, NoMemory>
 {
     let mut used = KeyTable::new(alloc);
     for reference in all {
-        used.add(key_of(alloc, *reference)?)?;
+        used.add(copied(alloc, &key_of(*reference))?)?;
     }
     Ok(used)
 }
 
-/// What a program refers to, each once.
-fn used_by(alloc: Global, p: &Typed) -> Result<KeyTable, NoMemory>
-    ensures { IfOk result (λ used. used ≡ keys_of (all_references (program_data p.now))) }
-{
-    let held = held_by(alloc, p)?;
-    keys_of(alloc, held.references.as_slice())
-}
-
 #[tactic(auto, using(crate::proofs::MissingNames::among_is))]
-fn is_used(alloc: Global, used: &KeyTable, reference: Reference) -> Result<bool, NoMemory>
-    ensures { IfOk result (λ it. it ≡ is_among used.now (key_of (reference_of reference))) }
+fn is_used(used: &KeyTable, reference: Reference) -> bool
+    ensures { result ≡ is_among used.now (key_of (reference_of reference)) }
 {
-    let key = key_of(alloc, reference)?;
-    Ok(used.number(&key) < used.len())
+    used.number(&key_of(reference)) < used.len()
 }
 
 fn add_objects(
@@ -62,7 +52,7 @@ fn add_objects(
     ensures { OnOk result (map trouble_of missing.new ≡ map trouble_of missing.old ++ objects_nowhere used.now 0 objects.now) }
 {
     for (n, o) in objects.iter().enumerate() {
-        if o.initial.is_none() && is_used(alloc, used, Reference::Object(n))? {
+        if o.initial.is_none() && is_used(used, Reference::Object(n)) {
             add_trouble(alloc, missing, &o.name, o.place, o.place)?;
         }
     }
@@ -78,7 +68,7 @@ fn add_functions(
     ensures { OnOk result (map trouble_of missing.new ≡ map trouble_of missing.old ++ functions_nowhere used.now 0 (map data_of functions.now)) }
 {
     for (n, f) in functions.iter().enumerate() {
-        if f.body.is_none() && is_used(alloc, used, Reference::Function(n))? {
+        if f.body.is_none() && is_used(used, Reference::Function(n)) {
             add_trouble(alloc, missing, &f.name, f.place, f.place)?;
         }
     }
@@ -104,7 +94,8 @@ fn all_missing(alloc: Global, p: &Typed) -> Result<List<Trouble>, NoMemory>
     if are_objects_defined(p.objects.as_slice()) && are_functions_defined(p.functions.as_slice()) {
         return Ok(List::new(alloc));
     }
-    let used = used_by(alloc, p)?;
+    let held = held_by(alloc, p)?;
+    let used = keys_of(alloc, held.references.as_slice())?;
     let mut missing = List::new(alloc);
     add_objects(alloc, &used, p.objects.as_slice(), &mut missing)?;
     add_functions(alloc, &used, p.functions.as_slice(), &mut missing)?;

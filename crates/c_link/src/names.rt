@@ -10,10 +10,10 @@ ghost use Rattle.c_link.specs.Repeats.{repeats, told_if_any};
 ghost use Rattle.c_joining.specs.Placing.{replaces_one};
 ghost use Rattle.c_numbers.specs.KeyNumbers.Keys.{with_key};
 
+use crate::joining::put;
 use crate::linked::Linked;
 use crate::troubles::{Trouble, add_trouble, earliest};
-use c_joining::{name_key, number_of, put};
-use c_numbers::KeyTable;
+use c_numbers::NameTable;
 use c_typed::Unit;
 use c_types::same;
 use lay_base::{List, NoMemory};
@@ -27,12 +27,12 @@ pub enum Asked {
 }
 
 /// The names, each once.
-fn names_of(alloc: Global, all: &[Linked]) -> Result<KeyTable, NoMemory>
+pub fn names_of(alloc: Global, all: &[Linked]) -> Result<NameTable, NoMemory>
     ensures { IfOk result (λ names. names ≡ fold with_key [] (map (λ l. l.name) (map linked_of all.now))) }
 {
-    let mut names = KeyTable::new(alloc);
+    let mut names = NameTable::new(alloc);
     for l in all {
-        names.add(name_key(alloc, &l.name)?)?;
+        names.add(alloc, &l.name)?;
     }
     Ok(names)
 }
@@ -81,7 +81,7 @@ fn takes_place(asked: Asked, first: Option<&Linked>, l: &Linked) -> bool
 fn name_troubles(
     alloc: Global,
     asked: Asked,
-    names: &KeyTable,
+    names: &NameTable,
     all: &[Linked],
 ) -> Result<List<Trouble>, NoMemory>
     ensures { IfOk result (λ troubles. map trouble_of troubles ≡ repeats (λ l. l.name) (counts asked) (told_by asked) names.now [] (map linked_of all.now)) }
@@ -89,7 +89,7 @@ fn name_troubles(
     let mut troubles = List::new(alloc);
     let mut firsts: Vec<&Linked> = Vec::new(alloc);
     for l in all {
-        let number = number_of(alloc, names, &l.name)?;
+        let number = names.number(l.name.as_slice());
         let first = firsts.get(number).copied();
         tell(alloc, asked, &mut troubles, first, l)?;
         put(&mut firsts, number, takes_place(asked, first, l), l)?;
@@ -97,17 +97,17 @@ fn name_troubles(
     Ok(troubles)
 }
 
-/// The earliest trouble with a name of units, if there is one. The names are those of the units.
+/// The earliest trouble with a name of units, if there is one. These are the names of the units.
 pub fn name_trouble(
     alloc: Global,
     asked: Asked,
     units: &[Unit],
+    names: &NameTable,
     all: &[Linked],
 ) -> Result<Option<Trouble>, NoMemory>
-    requires { map linked_of all.now ≡ linked_in (map unit_data units.now) }
+    requires linked { map linked_of all.now ≡ linked_in (map unit_data units.now) }
+    requires names { names.now ≡ fold with_key [] (map (λ l. l.name) (map linked_of all.now)) }
     ensures { IfOk result (λ found. MatchOption found (HasNone (IsAsked asked (map unit_data units.now))) (λ t. IsEarliest (IsAsked asked (map unit_data units.now)) (trouble_of t))) }
 {
-    let names = names_of(alloc, all)?;
-    let troubles = name_troubles(alloc, asked, &names, all)?;
-    Ok(earliest(troubles))
+    Ok(earliest(name_troubles(alloc, asked, names, all)?))
 }

@@ -5,11 +5,11 @@ ghost use Rattle.c_link.specs.Gaps.{IsLeast, open_structures, structures_in, typ
 ghost use Rattle.c_link.specs.Missing.{have_none, least_among, least_in, lesser_at, lesser_of};
 ghost use Rattle.c_typed.specs.Programs.{program_data};
 ghost use Rattle.c_types.specs.Types.{field_types};
-ghost use Rattle.c_types.specs.Views.{field_of, records_of, type_of};
+ghost use Rattle.c_types.specs.Views.{records_of, type_of};
 
 use crate::held::held_by;
 use c_typed::Typed;
-use c_types::{Field, Record, Ty};
+use c_types::{Record, Ty};
 use lay_base::{NoMemory, push};
 use std::alloc::Global;
 
@@ -54,23 +54,14 @@ fn least_of_each(alloc: Global, count: usize, types: &[Ty]) -> Result<Vec<Option
 }
 
 #[tactic(auto, using(crate::proofs::OpenStructures::least_append))]
-fn least_in_fields(count: usize, best: Option<usize>, fields: &[Field]) -> Option<usize>
-    ensures { result ≡ least_among count best (flat_map structures_in (map (λ f. f.ty) (map field_of fields.now))) }
-{
-    let mut best = best;
-    for f in fields {
-        best = least_among(count, best, &f.ty);
-    }
-    best
-}
-
-#[tactic(auto, using(crate::proofs::OpenStructures::least_append))]
 fn least_in_records(count: usize, records: &[Record]) -> Option<usize>
     ensures { result ≡ least_among count None (flat_map structures_in (flat_map field_types (records_of records.now))) }
 {
     let mut best = None;
     for r in records {
-        best = least_in_fields(count, best, r.fields.as_slice());
+        for f in r.fields.as_slice() {
+            best = least_among(count, best, &f.ty);
+        }
     }
     best
 }

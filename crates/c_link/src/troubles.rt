@@ -5,7 +5,7 @@ ghost use Rattle.std.specs.Option.{option_map};
 ghost use Rattle.c_link.specs.Clashes.{trouble_of};
 ghost use Rattle.c_link.specs.Earliest.{earlier_of, earliest_of, is_earlier};
 
-use c_joining::copy_of_name;
+use crate::records::copy_of_name;
 use lay_base::{List, Name, NoMemory, Place, add};
 use std::alloc::Global;
 

@@ -4,7 +4,9 @@
 //! once, in the order in which they came.
 
 mod key_table;
+mod name_table;
 mod number_set;
 
 pub use key_table::KeyTable;
+pub use name_table::NameTable;
 pub use number_set::NumberSet;

@@ -13,7 +13,7 @@ mod key_numbers;
 mod new_numbers;
 mod type_numbers;
 
-pub use key_numbers::{KeyTable, NumberSet};
+pub use key_numbers::{KeyTable, NameTable, NumberSet};
 pub use new_numbers::{
     Numbers, Renumbering, renumber_function, renumber_mention, renumber_object, renumber_statement,
 };

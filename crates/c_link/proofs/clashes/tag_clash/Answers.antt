@@ -12,7 +12,7 @@ pub returns : goal.returns
 returns c =
     let units = map unit_data c.args.units.now in
     let tags = c.args.tags.now in
-    let e = c.earliest.ensures ∙ ap earliest_of c.in_ok-troubles.ensures ∙ ap (λ them. earliest_of (clashes tags [] (records_of them))) c.as_slice.ensures
+    let e = c.earliest.ensures ∙ ap earliest_of c.in_ok-tag_troubles.ensures ∙ ap (λ them. earliest_of (clashes tags [] (records_of them))) c.as_slice.ensures
     ∙ ap (λ them. earliest_of (clashes tags [] them)) c.in_ok-all.ensures
     ∙ ap (λ them. earliest_of (clashes them [] (flat_map (records_in them) units))) c.requires in
     clash_or_none units c.earliest.result e

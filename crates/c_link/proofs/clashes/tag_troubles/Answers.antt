@@ -1,4 +1,4 @@
-use Rattle.std.proofs.Common.{◌≡◌, Bor, ◌+◌, List, true, false, ◌++◌, ◌∷◌, ◌∙◌, Option, Some, None, ap, drop, map, refl, sym, rules}
+use Rattle.std.proofs.Common.{◌≡◌, Bor, ◌+◌, List, true, false, ◌++◌, ◌∷◌, ◌∙◌, ap, drop, map, sym, rules}
 use Rattle.std.specs.Prelude.{slice_get}
 use Rattle.std.specs.Option.{option_copied, option_map}
 use Rattle.std.proofs.lemmas.List.{at_drop_more}
@@ -6,15 +6,11 @@ use Rattle.c_types.specs.declared.record.Record.{Record}
 use Rattle.c_types.specs.Types as Types
 use Rattle.c_types.specs.Views.{record_of, records_of}
 use Rattle.c_numbers.specs.KeyNumbers.Keys.{position}
-use Rattle.c_joining.specs.Placing.{replaces_one}
+use Rattle.c_joining.proofs.RecordLists.{never}
 use Rattle.c_link.specs.Clashes.{clashes, differing, trouble_of}
 use Rattle.c_link.proofs.LookUps.{found_is, looked_up}
 use Rattle.c_link.proofs.Repeats.{one_more_told}
 use Rattle.c_link.proofs.clashes.tag_troubles.Goals as goal
-
-never : (found : Option Types.Record) (x : Types.Record) → false ≡ replaces_one (λ r. true) found x
-never None x = refl
-never (Some y) x = refl
 
 pub loop-r-preserved : goal.loop-r-preserved
 loop-r-preserved c =
@@ -23,7 +19,7 @@ loop-r-preserved c =
     let all = c.args.all.now in
     let i = c.loop-r.r-index in
     let firsts = c.loop-r.firsts.items in
-    let number = c.in_ok-number.number in
+    let number = c.number-number.result in
     let n : number ≡ position tags r.tag = search rules in
     let at = c.get.ensures.lookup in
     let k = looked_up c.get.result c.deref.result.now number at.0 at.1 in

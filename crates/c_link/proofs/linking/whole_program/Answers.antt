@@ -12,8 +12,8 @@ use Rattle.c_link.proofs.linking.whole_program.Goals as goal
 abbrev AreAllSmall : List Unit → Type 0
 AreAllSmall units = All (λ (u : UnitData). AreSmall u.records) (map unit_data units)
 
-pub join-requires : goal.join-requires
-join-requires c =
+pub join-requires-clause-whole : goal.join-requires-clause-whole
+join-requires-clause-whole c =
     let e : c.as_slice.result.now ≡ c.args.units = search rules in
     whole_records (map unit_data c.args.units) c.requires.agree c.requires.countable (subst AreAllSmall e c.records_are_small.ensures)
 

@@ -11,4 +11,4 @@ pub returns : goal.returns
 returns c =
     let all = map linked_of c.args.all.now in
     let e : option_map trouble_of c.earliest.result ≡ earliest_of (troubles_with_names c.args.asked all) = search rules in
-    asked_or_none (map unit_data c.args.units.now) c.args.asked all c.earliest.result c.requires e
+    asked_or_none (map unit_data c.args.units.now) c.args.asked all c.earliest.result c.requires.linked e
