@@ -1,6 +1,7 @@
 pub mod TwoLists
 pub mod Counts
 pub mod Numbers
+pub mod ArmsMade
 pub mod BySort
 pub mod FromBack
 pub mod Shown

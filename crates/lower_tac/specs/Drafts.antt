@@ -12,7 +12,7 @@ use Rattle.lower_tac.specs.declared.ground.Ground.{Ground}
 use Rattle.lower_tac.specs.declared.ways.Exits.{Exits}
 use Rattle.lower_tac.specs.Grounds.{locals_in, program_in}
 use Rattle.lower_tac.specs.Parts.{Steps, temp}
-use Rattle.lower_tac.specs.Statements.{ArmsOut, Out, before, begins_code, default_start, dispatch_code, in_loop, marked, number_code, room, statement_code}
+use Rattle.lower_tac.specs.Statements.{ArmsOut, Out, before, begins_code, default_start, dispatch_code, here, in_loop, marked, number_code, room, statement_code}
 use Rattle.lower_tac.specs.Writing.{code_in}
 
 abbrev pub out_in : Draft → Out
@@ -37,6 +37,11 @@ body_in g body end next label x out =
 abbrev pub ArmsDrafted : (old new : Draft) → (was starts : List Target) → (Out → ArmsOut) → Type 0
 ArmsDrafted old new was starts made =
     new.code.want ≡ None → (old.code.want ≡ None) × (starts ≡ (made (out_in old)).starts ++ was) × (out_in new ≡ (made (out_in old)).out)
+
+-- one more arm begins, before those that are there
+abbrev pub ArmStarted : (old new : Draft) → (was starts : List Target) → Type 0
+ArmStarted old new was starts =
+    (new.loops ≡ old.loops) × (new.code.want ≡ None → (old.code.want ≡ None) × (starts ≡ here (out_in old) ∷ was) × (out_in new ≡ out_in old))
 
 -- what stands before the arms of a `switch`
 abbrev pub before_arms : ProgramData → (g : ℕ) → List Local → AnExpression → List ℕ → Trees.Arms ℕ → List Target → (behind : Target) → Steps → Steps

@@ -1,10 +1,10 @@
 //! Steps, labels and texts of a function, put in front of what is there.
 
-ghost use Rattle.std.specs.Prelude.{◌≡◌, ◌+◌, ◌<◌, ◌≤◌, ◌^◌, ◌++◌, ◌∷◌, [], length, map};
+ghost use Rattle.std.specs.Prelude.{◌≡◌, ◌+◌, ◌<◌, ◌≤◌, ◌^◌, ◌++◌, ◌∷◌, [], length, map, reverse};
 ghost use Rattle.c_typed.specs.RunCounts.Loops.{loops_in_all};
 ghost use Rattle.c_typed.specs.Views.{statement_of, statements_of};
 ghost use Rattle.tac_ir.specs.declared.step.Step.TheVariants as S;
-ghost use Rattle.lower_tac.specs.Drafts.{Drafted, DraftedTo, begun, out_in};
+ghost use Rattle.lower_tac.specs.Drafts.{ArmStarted, Drafted, DraftedTo, begun, out_in};
 ghost use Rattle.lower_tac.specs.Statements.{before, here, label_of, marked, with_label, with_loops};
 
 use crate::draft::Draft;
@@ -51,6 +51,15 @@ impl Draft {
         let left = self.code.steps.len();
         if let Some(at) = self.labels.get_mut(label) {
             *at = left;
+        }
+    }
+
+    /// An arm of a `switch` begins where the code that is there does.
+    pub fn start_arm(&mut self, starts: &mut Vec<Target>)
+        ensures { ArmStarted self.old self.new (reverse starts.old.items) (reverse starts.new.items) }
+    {
+        if let Err(want) = push(starts, self.here()) {
+            self.code.fail(want);
         }
     }
 

@@ -18,7 +18,7 @@ use crate::steps::ALONE;
 use crate::ways::{Exit, Exits, ReturnWay};
 use crate::writer::Writer;
 use c_typed::{Arm, Expression, Statement};
-use lay_base::{Boxed, List, push};
+use lay_base::{Boxed, List};
 use tac_ir::{Step, Target};
 
 /// The ways out of the arms of a `switch`.
@@ -246,7 +246,6 @@ impl Ground<'_> {
 
     /// The arms of a `switch`, and where each begins, the last one first.
     #[cycle(statements)]
-    #[tactic(auto, using(crate::proofs::Counts::arms_more))]
     fn arms(&self, draft: &mut Draft, all: &List<Arm>, x: Exits, starts: &mut Vec<Target>)
         requires few { self.now.room + 1 + asked_by_arms (arms_of (map arm_of all.now)) < 2 ^ 32 }
         requires loops { draft.old.loops + asked_by_arms (arms_of (map arm_of all.now)) < 2 ^ 32 }
@@ -256,9 +255,7 @@ impl Ground<'_> {
         for arm in all.as_slice().iter().rev() {
             self.has_numbers_for_all(draft, &arm.statements);
             self.statements(draft, &arm.statements, x);
-            if let Err(want) = push(starts, draft.here()) {
-                draft.code.fail(want);
-            }
+            draft.start_arm(starts);
         }
     }
 }

@@ -9,7 +9,8 @@ use Rattle.c_typed.specs.declared.statement.Statement.{Statement}
 use Rattle.lower_tac.specs.Drafts.{out_in}
 use Rattle.lower_tac.specs.Grounds.{locals_in, program_in}
 use Rattle.lower_tac.specs.Statements.{ArmsOut, arms_code, statements_code}
-use Rattle.lower_tac.proofs.Counts.{arm_asks, asked_by_made, asked_by_made_arms, statement_asks}
+use Rattle.lower_tac.proofs.ArmsMade.{arm_more}
+use Rattle.lower_tac.proofs.Counts.{arm_asks, arms_more, asked_by_made, asked_by_made_arms, statement_asks}
 use Rattle.lower_tac.proofs.Shown.{back_is}
 use Rattle.lower_tac.proofs.ground.Ground.+statements.Goals as goal
 
@@ -30,6 +31,19 @@ arms-returns-clause-is t c = λ h.
     ≡ arms_code (program_in c.args.self.now) c.args.self.now.number (locals_in c.args.self.now) (arms_of (map arm_of c.args.all.now)) c.args.x (out_in c.args.draft.now)
     = ap (λ (all : List Arm). arms_code (program_in c.args.self.now) c.args.self.now.number (locals_in c.args.self.now) (arms_of (map arm_of all)) c.args.x (out_in c.args.draft.now)) back in
     (made.0, made.1 ∙ ap (λ (o : ArmsOut). o.starts ++ reverse c.args.starts.now.items) whole, made.2 ∙ ap (λ (o : ArmsOut). o.out) whole)
+
+pub arms-loop-arm-preserved : goal.arms-loop-arm-preserved
+arms-loop-arm-preserved t c =
+    let l = c.loop-arm in (
+      λ h.
+          let start = c.start_arm.ensures.1 h in
+          let made = c.statements.ensures.is start.0 in
+          let before = l.invariant.0 made.0 in
+          let next = arm_more (program_in c.args.self.now) c.args.self.now.number (locals_in c.args.self.now) c.args.x l.yielded c.in-Some.arm (out_in c.args.draft.now) (out_in l.draft)
+          (out_in c.statements.new.draft) (reverse c.args.starts.now.items) (reverse l.starts.items) (reverse c.start_arm.new.starts.items) before.1 before.2 made.1 start.1 in
+          (before.0, next.0, start.2 ∙ next.1),
+      let more = arms_more l.yielded c.in-Some.arm in omega (arith, l.invariant.1, c.statements.ensures.loops, c.start_arm.ensures.0, more),
+    )
 
 pub statements-returns-clause-loops : goal.statements-returns-clause-loops
 statements-returns-clause-loops t c =
