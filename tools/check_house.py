@@ -12,7 +12,7 @@ import re
 import sys
 
 HERE = os.path.dirname(os.path.dirname(os.path.abspath(__file__)))
-CRATES, CHAIN, PATHS, WIDTH = 70, 15, 63500, 160
+CRATES, CHAIN, PATHS, WIDTH = 70, 15, 60000, 160
 RULED_OUT = ["checker state", "extent", "well levelled"]
 faults = []
 

@@ -66,3 +66,7 @@ pub mod WholeElements
 pub mod ItemFunctions
 pub mod ProgramWeights
 pub mod GapPlaces
+pub mod PrintableFunctions
+pub mod PrintableObjects
+pub mod Sizing
+pub mod SmallSizes

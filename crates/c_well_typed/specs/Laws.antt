@@ -6,7 +6,10 @@ use Rattle.c_ast.specs.TreesOfFiles.{IsTreeOf}
 use Rattle.c_erasure.specs.Erasing.{ErasesTo}
 use Rattle.c_checking_units.specs.TypeLimits.Limits.{HasSmallArrays}
 use Rattle.c_link.specs.Programs.{IsProgramOf}
+use Rattle.c_types.specs.Layouts.{size_of}
+use Rattle.c_types.specs.Limits.{greatest_size}
 use Rattle.c_types.specs.Objects.{is_object}
+use Rattle.c_types.specs.Types.{CType, void, integer, pointer, array, function, structure, Record}
 use Rattle.c_typed.specs.Programs.{FunctionData, UnitData, ProgramData}
 use Rattle.c_typed.specs.Trees as Typed
 use Rattle.c_well_typed.specs.WellTyped.{Lists, ty, of_unit, of_program, IsSmallType, IsTypedFunction, IsTypedObject, HaveTypedFunctions}
@@ -43,6 +46,23 @@ ProgramIsWellTyped p = (files : List File) → IsProgramOf files p → IsWellTyp
 abbrev pub ProgramHasSmallArrays : ProgramData → Type 0
 ProgramHasSmallArrays p = (files : List File) → All (λ (f : File). length f.bytes ≤ 4194304) files → IsProgramOf files p
     → All (HasSmallArrays p.records) p.types
+
+-- what a pointer of the type points to is within the limit of sizes, and so are the elements of an array of it, and their number
+abbrev pub HasSmallParts : List Record → CType → Type 0
+HasSmallParts records void = Unit {0}
+HasSmallParts records (integer kind) = Unit {0}
+HasSmallParts records (pointer t) = size_of records t ≤ greatest_size
+HasSmallParts records (array t n) = (size_of records t ≤ greatest_size) × (n ≤ greatest_size)
+HasSmallParts records (function t all) = Unit {0}
+HasSmallParts records (structure r) = Unit {0}
+
+abbrev pub HasSmallSizes : List Record → CType → Type 0
+HasSmallSizes records t = (size_of records t ≤ greatest_size) × HasSmallParts records t
+
+-- so it is for each type of that program
+abbrev pub ProgramHasSmallSizes : ProgramData → Type 0
+ProgramHasSmallSizes p = (files : List File) → All (λ (f : File). length f.bytes ≤ 4194304) files → IsProgramOf files p
+    → All (HasSmallSizes p.records) p.types
 
 -- the parameters and locals of a function with a body have complete types
 abbrev pub LocalsAreComplete : Type 0

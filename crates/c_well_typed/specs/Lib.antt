@@ -5,3 +5,4 @@ pub mod CountableUnits
 pub mod Moves
 pub mod ProgramWeights
 pub mod GapPlaces
+pub mod Printable

@@ -4,10 +4,11 @@ ghost use Rattle.c_typed.specs.Programs.{program_data};
 ghost use Rattle.c_well_typed.specs.Within.{InitialsLieWithin, ProgramHasTexts, ProgramsAreWithinLimits, ProgramsHaveFewFunctions};
 ghost use Rattle.c_well_typed.specs.Within.{ProgramsHaveFewLoops, TextsHoldNumbers};
 ghost use Rattle.c_well_typed.specs.Laws.{LocalsAreComplete, ProgramHasSmallArrays, ProgramHasTypedFunctions, ProgramHasTypedObjects, ProgramIsWellTyped, UnitsAreWellTyped};
-ghost use Rattle.c_well_typed.specs.Laws.{UnitsHaveTypedFunctions, UnitsHaveWholeElements};
+ghost use Rattle.c_well_typed.specs.Laws.{ProgramHasSmallSizes, UnitsHaveTypedFunctions, UnitsHaveWholeElements};
 ghost use Rattle.c_well_typed.specs.CountableUnits.{UnitsAreCountable};
 ghost use Rattle.c_well_typed.specs.Moves.{MovesKeepTyping};
 
+use crate::printable::programs_have_printable_types;
 use c_checking_laws::texts_are_in_order;
 use c_checking_units::arrays_are_small;
 use c_lexer::tokens_have_places;
@@ -75,6 +76,15 @@ pub fn programs_have_small_arrays(p: &Typed)
     records_are_complete(&p.records);
     units_have_typed_functions();
     arrays_are_small();
+}
+
+/// So no type of such a program is larger than the limit, nor what one points to; and no array has more elements, since no object is empty.
+pub fn programs_have_small_sizes(p: &Typed)
+    ensures { ProgramHasSmallSizes (program_data p.now) }
+{
+    records_are_complete(&p.records);
+    programs_have_printable_types(p);
+    programs_have_small_arrays(p);
 }
 
 /// Each parameter and local of a typed function with a body has a complete type (6.7, 6.9.1).

@@ -16,3 +16,4 @@ mod Texts
 mod Programs
 mod Images
 pub mod Starts
+mod SmallTypes

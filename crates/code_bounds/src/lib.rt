@@ -6,7 +6,7 @@
 //! within 512 bytes for each node, no frame takes more than a call of its function weighs, and the image of a program of files is within the parts of the
 //! address space. The laws of prices and frames ask that the locals stand in the scopes that declare them (`HasScopes`), as those of well typed functions do.
 //!
-//! By a law of its own, over `source_start`, the start of a run of a program of files wants nothing but memory.
+//! By laws of its own, over `source_start` and `source_values`, the start of a run of a program of files wants nothing but memory, and its types are small.
 #![tactic(auto)]
 
 mod compiled;
@@ -24,4 +24,4 @@ pub use lowered::{
     programs_are_within, programs_have_few_steps, sizes_stand, steps_are_few, temporaries_are_few,
     typed_functions_have_scopes,
 };
-pub use starting::programs_start_fit;
+pub use starting::{programs_start_fit, types_are_small};

@@ -2,7 +2,6 @@ pub mod CodeRuns
 pub mod InImage
 pub mod Starting
 pub mod Soundness
-pub mod SmallTypes
 pub mod Events
 pub mod Room
 pub mod Weighed

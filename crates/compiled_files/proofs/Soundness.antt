@@ -6,7 +6,6 @@ pub mod Scoping
 pub mod Stating
 pub mod Typing
 pub mod Declaring
-pub mod Sizing
 pub mod Bodies
 pub mod Routines
 pub mod Referring

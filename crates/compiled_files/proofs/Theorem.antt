@@ -2,7 +2,7 @@
 use Rattle.std.proofs.Common.{ℕ, ◌<◌, ◌^◌, All, List, sym, subst}
 use Rattle.c_meaning.specs.Longer.{HadRoom}
 use Rattle.c_meaning.specs.Run.{run}
-use Rattle.c_printable.specs.PrintablePrograms.Laws.{ProgramIsPrintable}
+use Rattle.c_well_typed.specs.Printable.Laws.{ProgramIsPrintable}
 use Rattle.c_typed.specs.Programs.{ProgramData}
 use Rattle.c_well_typed.specs.Laws.{ProgramIsWellTyped}
 use Rattle.c_well_typed.specs.ProgramWeights.Bounds.{ProgramsAreBounded}

@@ -17,7 +17,7 @@ use Rattle.tac_ir.specs.declared.step.Step.{Step}
 use Rattle.compiled_files.specs.CodeRuns.Room.{AreWithin}
 use Rattle.compiled_files.proofs.Room.{frame_if_any, frame_in}
 use Rattle.compiled_files.proofs.Soundness.Routines.{origin}
-use Rattle.compiled_files.proofs.Soundness.Sizing.{at_all}
+use Rattle.c_well_typed.proofs.Sizing.{at_all}
 
 abbrev frame_by : List Step → List Bool → List Parameter → ℕ
 frame_by code locals parameters = frame_size (record { ty = 0; locals = locals; parameters = parameters; code = code; labels = []; texts = [] })

@@ -1,5 +1,5 @@
 -- The laws of images and of steady code.
-use Rattle.std.specs.Prelude.{◌≡◌, ℕ, ◌^◌, ◌<◌, ◌≤◌, List, All, Ok, length}
+use Rattle.std.specs.Prelude.{◌≡◌, ℕ, ◌^◌, ◌<◌, ◌≤◌, List, All, Ok}
 use Rattle.lay_base.specs.declared.place.File.{File}
 use Rattle.c_link.specs.Programs.{IsProgramOf}
 use Rattle.c_typed.specs.Programs.{ProgramData}
@@ -12,10 +12,6 @@ use Rattle.tac_ir.specs.Code.{code_of}
 use Rattle.tac_ir.specs.Steady.{AllSteady}
 use Rattle.tac_ir.specs.declared.step.Tac.{Tac}
 use Rattle.compiled_files.specs.Files.{IsFileOf}
-
--- no type of a program of some files of at most 4 MiB each is larger than the limit of types, nor what one points to
-abbrev pub ProgramHasSmallTypes : ProgramData → Type 0
-ProgramHasSmallTypes p = (files : List File) → All (λ (f : File). length f.bytes ≤ 4194304) files → IsProgramOf files p → TypesAreSmall p
 
 -- the file of the image of a program of files and of its code, where it loads as that image, is one of the program
 abbrev pub ImageIsOfProgram : ProgramData → Tac → Type 0

@@ -1,16 +1,15 @@
 //! The laws of images and of steady code, by those of runs of code and those of the crates below.
 
 ghost use Rattle.c_typed.specs.Programs.{program_data};
-ghost use Rattle.compiled_files.specs.Laws.{ImageIsOfProgram, ProgramHasSmallTypes, ProgramIsSteady};
+ghost use Rattle.compiled_files.specs.Laws.{ImageIsOfProgram, ProgramIsSteady};
 
 use crate::code_runs::{
     allocations_have_room, calls_have_room, earlier_fits, light_runs_fit, runs_add, steps_add,
 };
 use c_meaning::runs_have_room;
-use c_printable::programs_are_printable;
 use c_typed::Typed;
 use c_well_typed::{
-    initials_lie_within, programs_are_bounded, programs_are_well_typed, programs_have_small_arrays,
+    initials_lie_within, programs_are_bounded, programs_are_printable, programs_are_well_typed,
 };
 use code_bounds::{
     frames_are_weighed, functions_are_as_long, jumps_lead_on, jumps_stand, kinds_stand,
@@ -18,16 +17,6 @@ use code_bounds::{
 };
 use lower_tac::runs_are_same;
 use tac_ir::Tac;
-
-/// No type of a program of files is larger than the limit of types, nor what one points to: the arrays are within the limit, those behind pointers too, and
-/// no object is empty, so that none of them has more elements.
-pub fn types_are_small(p: &Typed)
-    ensures { ProgramHasSmallTypes (program_data p.now) }
-{
-    programs_are_well_typed(p);
-    programs_are_printable(p);
-    programs_have_small_arrays(p);
-}
 
 /// The file of the image of a program of files is one of the program, where it loads as that image. What is known of such a program makes its code sound,
 /// sound code stands in the image, and the machine on it comes to what the run of the code comes to.

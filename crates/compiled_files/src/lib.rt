@@ -1,7 +1,7 @@
 //! From a program of files to its file: three-address code, machine code, the image and the ELF file.
 //!
 //! It stands on `lower_tac`, `rv_image` and `elf32`, whose stages it calls one after the other, on `rv_emit`, whose laws relate runs of code to the machine,
-//! and on the laws of `code_bounds`, `c_well_typed` and `c_printable`. It promises that the machine on the file of a program does what the program does by its
+//! and on the laws of `code_bounds` and `c_well_typed`. It promises that the machine on the file of a program does what the program does by its
 //! meaning (`Agrees`), and with the heap just what the program does (`Real`).
 //!
 //! It holds laws of runs of three-address code, for any code, and of light runs of the source (`code_runs`), on which the machine's stack and heap stand. Each
@@ -18,10 +18,10 @@ mod laws;
 mod stages;
 
 // Laws of a program's code and of the start of its run: who runs one need not name the crate that they are from.
-pub use code_bounds::{few_are_asked, programs_start_fit};
+pub use code_bounds::{few_are_asked, programs_start_fit, types_are_small};
 pub use code_runs::{
     allocations_have_room, calls_are_within, calls_have_room, covered_runs_pass, earlier_fits,
     light_moments_fit, light_runs_fit, runs_add, runs_pass, steps_add, steps_lead, weights_rise,
 };
-pub use laws::{images_are_of_programs, programs_are_steady, types_are_small};
+pub use laws::{images_are_of_programs, programs_are_steady};
 pub use stages::compiled;

@@ -12,7 +12,7 @@ use crate::row::{Question, Row};
 use crate::verdicts::put_verdicts;
 use crate::weights::put_weights;
 use c_typed::Typed;
-use compiled_files::{few_are_asked, types_are_small};
+use code_bounds::{few_are_asked, types_are_small};
 use lay_base::{File, Files};
 use lay_compile::{CompileFault, Gap, front};
 use row_lines::Writer;

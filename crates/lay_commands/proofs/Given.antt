@@ -1,8 +1,6 @@
 -- What `compile` is given, stage by stage: what is left where one refuses, and at the end.
-use Rattle.std.proofs.Common.{◌≡◌, ℕ, ◌<◌, ◌≤◌, ◌^◌, List, arith, length, map, Option, Some, None, refl, inl, inr}
-use Rattle.std.specs.Prelude.{All, Ok, Err}
-use Rattle.std.proofs.lemmas.List.{length-map}
-use Rattle.std.proofs.lemmas.List.Elements.{All-weaker}
+use Rattle.std.proofs.Common.{◌≡◌, ℕ, ◌≤◌, List, length, Option, Some, None, refl, inl, inr}
+use Rattle.std.specs.Prelude.{Ok, Err}
 use Rattle.std.specs.Global.{Vec}
 use Rattle.lay_base.specs.Known.{Contents, IfKnown, FilesKeep}
 use Rattle.lay_base.specs.declared.place.File.{File}
@@ -11,11 +9,7 @@ use Rattle.refusals.specs.declared.refusal.Refusal.{Refusal}
 use Rattle.refusals.specs.declared.refusal.Refusal.TheVariants as R
 use Rattle.c_link.specs.Programs.{IsProgramOf}
 use Rattle.c_typed.specs.declared.run_counts.counts.Counts.{Counts}
-use Rattle.c_typed.specs.declared.program.Function.{Function}
-use Rattle.c_typed.specs.declared.program.Typed.{Typed}
-use Rattle.c_typed.specs.Programs.{ProgramData, data_of}
-use Rattle.c_typed.specs.RunCounts.Loops.{loops_of}
-use Rattle.c_link.proofs.Counted.{all_of_mapped}
+use Rattle.c_typed.specs.Programs.{ProgramData}
 use Rattle.lay_compile.specs.declared.program_files.front_end.PlaceTexts.{PlaceTexts}
 use Rattle.lay_compile.specs.ProgramFiles.FrontEnd.{HasTexts}
 use Rattle.lay_compile.specs.ProgramFiles.Outside.{Stream, Outside, outside, IsUntouched}
@@ -166,13 +160,3 @@ counts_have_none f names texts (Some bytes) p (R.BadProfile line) gives = λ pla
 counts_have_none f names texts (Some bytes) p (R.Stale function difference) gives = λ place. cc
 counts_have_none f names texts (Some bytes) p (R.Memory want) gives = λ place. cc
 counts_have_none f names texts (Some bytes) p _ gives = absurd gives
-
--- ---- functions and loops of a program
-
-pub few_functions : (fs : List Function) → length (map data_of fs) ≤ 131072 → length fs < 2 ^ 32
-few_functions fs h = let same = length-map fs data_of in omega (arith, same, h)
-
-pub few_loops : (fs : List Function) → All (λ f. loops_of f ≤ 131072) (map data_of fs) → All (λ f. loops_of (data_of f) < 2 ^ 32) fs
-few_loops fs h =
-    All-weaker (λ f. loops_of (data_of f) ≤ 131072) (λ f. loops_of (data_of f) < 2 ^ 32) (λ f few. omega (arith, few)) fs
-    (all_of_mapped (λ f. loops_of f ≤ 131072) data_of fs h)

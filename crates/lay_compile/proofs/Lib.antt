@@ -6,3 +6,4 @@ mod FaultPlaces
 pub mod LineTexts
 pub mod ProgramFiles
 pub mod RefusalPlaces
+pub mod Few

@@ -1,6 +1,6 @@
 -- Files have at most one program, and none where they are refused.
-use Rattle.std.proofs.Common.{◌≡◌, ◌∙◌, ℕ, zero, suc, ◌+◌, List, [], ◌∷◌, ◌++◌, length, refl, sym, ap, subst, inl, inr, arith}
-use Rattle.std.specs.Prelude.{◌⊎◌, Some, None, Result, Ok, Err}
+use Rattle.std.proofs.Common.{◌≡◌, ◌∙◌, ℕ, ◌+◌, List, [], ◌∷◌, ◌++◌, length, sym, ap, subst, inl, inr, arith}
+use Rattle.std.specs.Prelude.{◌⊎◌, Result, Ok, Err}
 use Rattle.lay_base.specs.declared.place.File.{File}
 use Rattle.c_tokens.specs.declared.fault.FaultKind.{FaultKind}
 use Rattle.c_tokens.specs.declared.fault.FaultKind.TheVariants as F

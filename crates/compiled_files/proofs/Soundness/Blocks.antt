@@ -11,8 +11,8 @@ use Rattle.c_typed.specs.TypedStatements.{all_declared}
 use Rattle.c_typed.specs.declared.program.Local.{Local}
 use Rattle.c_meaning.specs.Program.{all_locals, size_at, type_at}
 use Rattle.c_link.specs.Gaps.{HasNone, IsMissing}
-use Rattle.c_printable.specs.Programs.{IsPrintable, local_types}
-use Rattle.c_printable.specs.Statements.{is_declaration}
+use Rattle.c_well_typed.specs.Printable.Programs.{IsPrintable, local_types}
+use Rattle.c_well_typed.specs.Printable.Statements.{is_declaration}
 use Rattle.c_well_typed.specs.WellTyped.{AreWellTyped, of_program}
 use Rattle.code_bounds.specs.LoweredLaws.{TypedHaveScopes}
 use Rattle.code_bounds.specs.Scopes.{HasScopes, IsScoped, IsScopedBody}
@@ -37,7 +37,7 @@ use Rattle.compiled_files.proofs.Soundness.Declared.{counted, declared}
 use Rattle.compiled_files.proofs.Soundness.Functions as Functions
 use Rattle.compiled_files.proofs.Soundness.Scoping as Scoping
 use Rattle.compiled_files.proofs.Soundness.Sitting.{StatementSits}
-use Rattle.compiled_files.proofs.Soundness.Sizing.{at_all, get_from, get_map, index_map}
+use Rattle.c_well_typed.proofs.Sizing.{at_all, get_from, get_map, index_map}
 
 -- ---- lists
 

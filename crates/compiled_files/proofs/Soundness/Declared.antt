@@ -8,7 +8,7 @@ use Rattle.c_typed.specs.Mapped.{of_types, mapped_statement, mapped_statements, 
 use Rattle.c_typed.specs.Trees as T
 use Rattle.c_typed.specs.Trees.{Statement, Statements, Arms}
 use Rattle.c_typed.specs.TypedStatements.{declared_by, declared_by_arms, all_declared, all_declared_by, all_declared_by_arms}
-use Rattle.c_printable.specs.Statements.{AreArms, ArePrintableStatements, IsPrintableStatement, is_declaration}
+use Rattle.c_well_typed.specs.Printable.Statements.{AreArms, ArePrintableStatements, IsPrintableStatement, is_declaration}
 use Rattle.c_well_typed.specs.WellTyped.{count_up}
 use Rattle.code_bounds.specs.Scopes.{AreScoped, AreScopedArms, IsScoped}
 use Rattle.compiled_files.proofs.Soundness.Begins.{Begun, BegunAmong, BegunInArms, In}

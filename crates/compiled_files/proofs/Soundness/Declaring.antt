@@ -25,7 +25,7 @@ use Rattle.c_meaning.specs.Program.{size_at, type_at}
 use Rattle.tac_ir.specs.Code.{Code}
 use Rattle.compiled_files.proofs.Soundness.Sitting.{SitsIfAny, SitsValue, PartsSit, SitsInitializer, SitsInitial, SitsDeclaration, OwnSit, CasesSit}
 use Rattle.compiled_files.proofs.Soundness.Sitting.{StatementSits, StatementsSit, ArmsSit}
-use Rattle.compiled_files.proofs.Soundness.Sizing.{index_map}
+use Rattle.c_well_typed.proofs.Sizing.{index_map}
 use Rattle.compiled_files.proofs.Soundness.Typing.{Facts, IsThere, front, back, kind_small}
 use Rattle.compiled_files.proofs.Soundness.Typing as Typing
 

@@ -9,7 +9,7 @@ use Rattle.c_typed.specs.Trees.{Statement}
 use Rattle.c_typed.specs.Typed.{Declared}
 use Rattle.c_meaning.specs.Program.{all_locals, size_at, type_at}
 use Rattle.c_link.specs.Gaps.{HasNone, IsMissing}
-use Rattle.c_printable.specs.Programs.{IsBody, IsPrintable, IsPrintableFunction, if_any}
+use Rattle.c_well_typed.specs.Printable.Programs.{IsBody, IsPrintable, IsPrintableFunction, if_any}
 use Rattle.c_well_typed.specs.WellTyped.{AreWellTyped, HasBody as HasTypedBody, IsTypedFunction, declared_in, of_program}
 use Rattle.lower_tac.specs.Statements.{body_code, code_if_any, lowered, routine_of}
 use Rattle.rv_code.specs.Programs.{places_of}
@@ -23,7 +23,7 @@ use Rattle.compiled_files.proofs.Soundness.Knowing as Knowing
 use Rattle.compiled_files.proofs.Soundness.Referring.{IsUsed, body_used, has_body}
 use Rattle.compiled_files.proofs.Soundness.Routines.{routine_there}
 use Rattle.compiled_files.proofs.Soundness.Sitting.{StatementSits}
-use Rattle.compiled_files.proofs.Soundness.Sizing.{at_all, get_from}
+use Rattle.c_well_typed.proofs.Sizing.{at_all, get_from}
 
 pub some_body : {A : Type 0} (o : Option A) → is_some o ≡ true → (x : A) × (o ≡ Some x)
 some_body None e = cc

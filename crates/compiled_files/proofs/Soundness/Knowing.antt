@@ -14,7 +14,7 @@ use Rattle.c_typed.specs.Typed.{Declared}
 use Rattle.c_typed.specs.declared.program.Local.{Local}
 use Rattle.c_typed.specs.declared.program.Object.{Object}
 use Rattle.c_meaning.specs.Program.{all_locals, element_size, size_at, type_at}
-use Rattle.c_printable.specs.Programs.{AreMarked}
+use Rattle.c_well_typed.specs.Printable.Programs.{AreMarked}
 use Rattle.c_well_typed.specs.WellTyped.{AreWellTyped, declared_in, of_program}
 use Rattle.lower_tac.specs.Expressions.{named}
 use Rattle.lower_tac.specs.Statements.{lowered}
@@ -24,7 +24,7 @@ use Rattle.source_values.specs.Rows.{TypesAreSmall}
 use Rattle.compiled_files.proofs.Soundness.Bodies.{as_many}
 use Rattle.compiled_files.proofs.Soundness.Declaring.{LocalFacts}
 use Rattle.compiled_files.proofs.Soundness.Routines as Routines
-use Rattle.compiled_files.proofs.Soundness.Sizing.{get_from, get_map, not_empty, part_ends}
+use Rattle.c_well_typed.proofs.Sizing.{get_from, get_map, not_empty, part_ends}
 use Rattle.compiled_files.proofs.Soundness.Typing.{Facts}
 
 places_long : (at : ℕ) (sizes : List ℕ) → length (places_from at sizes) ≡ length sizes

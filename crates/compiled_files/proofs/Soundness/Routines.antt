@@ -14,7 +14,7 @@ use Rattle.tac_ir.specs.Code.{RoutineData}
 use Rattle.compiled_files.proofs.Soundness.Adding.{some_same}
 use Rattle.compiled_files.proofs.Soundness.Bodies.{as_many}
 use Rattle.compiled_files.proofs.Soundness.Sitting.{IsCalled, IsCalledThrough}
-use Rattle.compiled_files.proofs.Soundness.Sizing.{at_all, get_from}
+use Rattle.c_well_typed.proofs.Sizing.{at_all, get_from}
 use Rattle.compiled_files.proofs.Soundness.Typing.{many}
 
 module _ (p : ProgramData) where

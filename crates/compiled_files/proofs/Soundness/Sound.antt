@@ -23,8 +23,8 @@ use Rattle.block_memory.specs.RunWorlds.Scalars.{width_of}
 use Rattle.c_meaning.specs.Program.{access_at, access_of, all_locals, none_or, object_size, size_at, size_if_defined, type_at}
 use Rattle.c_link.specs.Gaps.{HasNone, IsMissing, is_object, referred_by_stored}
 use Rattle.c_link.specs.Programs.{IsProgramOf}
-use Rattle.c_printable.specs.Programs.{IsPrintable}
-use Rattle.c_printable.specs.PrintablePrograms.Laws.{ProgramIsPrintable}
+use Rattle.c_well_typed.specs.Printable.Programs.{IsPrintable}
+use Rattle.c_well_typed.specs.Printable.Laws.{ProgramIsPrintable}
 use Rattle.c_well_typed.specs.Laws.{ProgramIsWellTyped}
 use Rattle.c_well_typed.specs.WellTyped.{AreInitials, AreScalars, AreWellTyped, HasBody as HasTypedBody, HasMain, IsTypedFunction, IsTypedInitial}
 use Rattle.c_well_typed.specs.WellTyped.{IsTypedInitialValue}
@@ -48,7 +48,7 @@ use Rattle.compiled_files.proofs.Soundness.Fits as Fits
 use Rattle.compiled_files.proofs.Soundness.Functions as Functions
 use Rattle.compiled_files.proofs.Soundness.Referring.{IsUsed, IsUsedObject, has_initial, value_test, value_used}
 use Rattle.compiled_files.proofs.Soundness.Routines as Routines
-use Rattle.compiled_files.proofs.Soundness.Sizing.{at_all, get_from, get_map}
+use Rattle.c_well_typed.proofs.Sizing.{at_all, get_from, get_map}
 use Rattle.compiled_files.proofs.Soundness.Typing.{IsThere, kind_small}
 
 -- a number or a pointer is as large as what is loaded of it

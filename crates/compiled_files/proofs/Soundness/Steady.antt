@@ -3,7 +3,7 @@ use Rattle.std.proofs.Common.{◌≡◌, refl, ap, ℕ, suc, ◌+◌, ◌≤◌,
 use Rattle.std.proofs.lemmas.List.Elements.{recursion_from_All}
 use Rattle.std.specs.List.{AllByRecursion as Each}
 use Rattle.std.specs.Prelude.{slice_index}
-use Rattle.c_printable.specs.PrintablePrograms.Laws.{ProgramIsPrintable}
+use Rattle.c_well_typed.specs.Printable.Laws.{ProgramIsPrintable}
 use Rattle.c_typed.specs.Programs.{ProgramData}
 use Rattle.c_well_typed.specs.Laws.{ProgramIsWellTyped}
 use Rattle.c_well_typed.specs.Within.{InitialsLieWithin}
@@ -23,7 +23,7 @@ use Rattle.tac_ir.specs.declared.step.Step.{Step}
 use Rattle.tac_ir.specs.declared.step.Step.TheVariants as S
 use Rattle.compiled_files.specs.Laws.{ProgramIsSteady}
 use Rattle.compiled_files.specs.Sound.{IsSound}
-use Rattle.compiled_files.proofs.Soundness.Sizing.{at_all}
+use Rattle.c_well_typed.proofs.Sizing.{at_all}
 use Rattle.compiled_files.proofs.Soundness.Sound.{sound}
 
 -- ---- one function

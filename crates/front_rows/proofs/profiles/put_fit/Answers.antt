@@ -1,5 +1,5 @@
 use Rattle.c_typed.specs.Programs.{program_data}
-use Rattle.front_rows.proofs.Few.{few_functions, few_loops}
+use Rattle.lay_compile.proofs.Few.{few_functions, few_loops}
 use Rattle.front_rows.proofs.profiles.put_fit.Goals as goal
 
 pub fits-requires-clause-functions : goal.fits-requires-clause-functions

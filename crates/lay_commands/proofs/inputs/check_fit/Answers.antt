@@ -1,4 +1,4 @@
-use Rattle.lay_commands.proofs.Given.{few_functions, few_loops}
+use Rattle.lay_compile.proofs.Few.{few_functions, few_loops}
 use Rattle.c_typed.specs.Programs.{program_data}
 use Rattle.lay_commands.proofs.inputs.check_fit.Goals as goal
 

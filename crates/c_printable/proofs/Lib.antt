@@ -1,3 +1,0 @@
-pub mod PrintableFunctions
-pub mod PrintableObjects
-pub mod PrintablePrograms

@@ -1,8 +1,0 @@
-pub mod Declarable
-pub mod Expressions
-pub mod Initializers
-pub mod Statements
-pub mod Programs
-pub mod PrintableFunctions
-pub mod PrintableObjects
-pub mod PrintablePrograms
