@@ -1,6 +1,6 @@
 //! `NameTable`: names, each once, in the order in which they came.
 
-ghost use Rattle.std.specs.Prelude.{◌≡◌, [], IfOk, OnOk, get_or};
+ghost use Rattle.std.specs.Prelude.{◌≡◌, [], IfOk, OnErr, OnOk, get_or};
 ghost use Rattle.c_numbers.specs.KeyNumbers.Keys.{position, with_key};
 
 use indexmap::IndexSet;
@@ -41,7 +41,8 @@ impl NameTable {
 
     /// Adds a copy of a name after the others, where it is not among them.
     pub fn add(&mut self, alloc: Global, name: &Name) -> Result<(), NoMemory>
-        ensures { OnOk result (self.new ≡ with_key self.old name.now) }
+        ensures added { OnOk result (self.new ≡ with_key self.old name.now) }
+        ensures unchanged { OnErr result (self.new ≡ self.old) }
     {
         let copy = copied(alloc, name.as_slice())?;
         put_key(&mut self.names, copy)?;
