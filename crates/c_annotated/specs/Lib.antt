@@ -1,3 +1,3 @@
+pub mod Trees
 pub mod Views
-pub mod Nodes
 pub mod FileViews

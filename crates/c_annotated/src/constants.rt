@@ -23,8 +23,8 @@ pub fn constant_of(e: &Expression) -> Constant
         ExpressionNode::Constant(v) => Constant::Valued(*v),
         ExpressionNode::Convert(x, _) => {
             // Of a conversion to any other type the operand is not asked, so that nested ones take linear time.
-            if is_integer(&e.ty) {
-                converted_constant(Some(&e.ty), constant_of(x.get()))
+            if is_integer(&e.ty.ty) {
+                converted_constant(&e.ty.ty, constant_of(x.get()))
             } else {
                 Constant::None
             }
@@ -33,13 +33,13 @@ pub fn constant_of(e: &Expression) -> Constant
         ExpressionNode::Binary(op, x, y) => {
             let left = constant_of(x.get());
             let right = constant_of(y.get());
-            let right_kind = kind_of(Some(&y.get().ty));
-            binary_constant(*op, kind_of(Some(&e.ty)), left, right_kind, right)
+            let right_kind = kind_of(&y.get().ty.ty);
+            binary_constant(*op, kind_of(&e.ty.ty), left, right_kind, right)
         }
         ExpressionNode::Compare(op, x, y) => {
             let left = constant_of(x.get());
             let right = constant_of(y.get());
-            compared_constants(*op, kind_of(Some(&x.get().ty)), left, right)
+            compared_constants(*op, kind_of(&x.get().ty.ty), left, right)
         }
         ExpressionNode::And(x, y) => {
             decided_by(false, constant_of(x.get()), constant_of(y.get()))
@@ -72,7 +72,7 @@ pub fn is_null(e: &Expression) -> bool
 {
     match written_cast(e) {
         Some(operand) => {
-            if is_void_pointer(Some(&e.ty)) {
+            if is_void_pointer(&e.ty.ty) {
                 is_zero(constant_of(operand))
             } else {
                 is_zero(constant_of(e))

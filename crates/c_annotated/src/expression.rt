@@ -1,8 +1,12 @@
 //! Expressions, and the paths to objects (C99 6.5), with their types.
 
-use c_typed::{BinaryOp, CompareOp, LibraryFunction, PointerOp, StepOp, UnaryOp};
+ghost use Rattle.std.specs.Prelude.{◌≡◌};
+ghost use Rattle.c_annotated.specs.Views.{noted_of};
+ghost use Rattle.c_erasure.specs.Noted.{plain};
+ghost use Rattle.c_types.specs.Views.{type_of};
+
 use c_types::Ty;
-use lay_base::{Boxed, List, Place};
+use lay_base::Boxed;
 
 /// A `sizeof` (C99 6.5.3.4): the type of which it is the size, and its first byte in the file.
 #[derive(Drop)]
@@ -11,82 +15,24 @@ pub struct SizeOf {
     pub at: u32,
 }
 
-/// An expression that has a value, or none where its type is `void`. Its place is that of the first token of its text.
-#[cycle(annotated)]
+/// The type at a node, and the `sizeof` that a constant is; none of any other node.
 #[derive(Drop)]
-pub struct Expression {
+pub struct Noted {
     pub ty: Ty,
-    /// The `sizeof` that a constant is; none of any other expression.
     pub note: Option<Boxed<SizeOf>>,
-    pub place: Place,
-    pub node: ExpressionNode,
 }
 
-#[cycle(annotated)]
-#[derive(Drop)]
-pub enum ExpressionNode {
-    /// A number, as the low bits of its type's width.
-    Constant(u32),
-    /// A null pointer.
-    Null,
-    /// A pointer to the function of that number.
-    FunctionName(usize),
-    /// The value of a number or a pointer in memory.
-    Load(Boxed<Path>),
-    AddressOf(Boxed<Path>),
-    /// A pointer to the first element of an array (C99 6.3.2.1).
-    Decay(Boxed<Path>),
-    /// A conversion, and whether a cast is written.
-    Convert(Boxed<Expression>, bool),
-    Unary(UnaryOp, Boxed<Expression>),
-    Binary(BinaryOp, Boxed<Expression>, Boxed<Expression>),
-    Compare(CompareOp, Boxed<Expression>, Boxed<Expression>),
-    /// A pointer and a number of elements, in the order of the text.
-    PointerAdd(PointerOp, Boxed<Expression>, Boxed<Expression>),
-    /// How many elements lie between two pointers.
-    PointerDiff(Boxed<Expression>, Boxed<Expression>),
-    And(Boxed<Expression>, Boxed<Expression>),
-    Or(Boxed<Expression>, Boxed<Expression>),
-    Not(Boxed<Expression>),
-    Cond(Boxed<Expression>, Boxed<Expression>, Boxed<Expression>),
-    Comma(Boxed<Expression>, Boxed<Expression>),
-    Assign(Boxed<Path>, Boxed<Expression>),
-    AssignOp(BinaryOp, Boxed<Path>, Boxed<Expression>),
-    /// `++` or `--`; whether it stands before its operand.
-    Step(StepOp, bool, Boxed<Path>),
-    /// A whole record is assigned: to, from.
-    CopyRecord(Boxed<Path>, Boxed<Path>),
-    /// A call of the function of that number.
-    Call(usize, List<Expression>),
-    /// A call through a pointer to a function.
-    CallThrough(Boxed<Expression>, List<Expression>),
-    Library(LibraryFunction, List<Expression>),
-    /// An allocation of records: the record's number, how many where that is written, and whether all bytes are zero.
-    Allocate(usize, Option<Boxed<Expression>>, bool),
+/// A type at a node that is no `sizeof`.
+pub fn plain(ty: Ty) -> Noted
+    ensures { noted_of result ≡ plain (type_of ty) }
+{
+    Noted { ty, note: None }
 }
 
-/// The way to an object, or to a part of one.
-#[cycle(annotated)]
-#[derive(Drop)]
-pub struct Path {
-    pub ty: Ty,
-    pub place: Place,
-    pub node: PathNode,
-}
+pub type Expression = c_typed::Expression<Noted>;
 
-#[cycle(annotated)]
-#[derive(Drop)]
-pub enum PathNode {
-    /// A local of the function, by its number; parameters come first.
-    Named(usize),
-    /// An object of the file, by its number.
-    Object(usize),
-    /// What a pointer points to.
-    Deref(Boxed<Expression>),
-    /// A subscript on a pointer.
-    Index(Boxed<Expression>, Boxed<Expression>),
-    /// A field of a record: the record's number, and the field's in it.
-    Member(Boxed<Path>, usize, usize),
-    /// A subscript on an array object or an array field.
-    Element(Boxed<Path>, Boxed<Expression>),
-}
+pub type ExpressionNode = c_typed::ExpressionNode<Noted>;
+
+pub type Path = c_typed::Path<Noted>;
+
+pub type PathNode = c_typed::PathNode<Noted>;

@@ -14,7 +14,7 @@ mod statement;
 mod thing;
 
 pub use constants::{constant_of, is_null};
-pub use expression::{Expression, ExpressionNode, Path, PathNode, SizeOf};
+pub use expression::{Expression, ExpressionNode, Noted, Path, PathNode, SizeOf, plain};
 pub use file::{Function, Local, Mention, Object};
 pub use names::{Bound, Entity, How, Tag};
 pub use statement::{Arm, Initializer, InitializerPart, PartValue, Statement};

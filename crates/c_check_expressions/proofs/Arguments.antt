@@ -19,7 +19,7 @@ use Rattle.c_ast.specs.Trees
 use Rattle.c_typed.specs.Trees as Typed
 use Rattle.c_erasure.specs.Noted.{Noted, Expression}
 use Rattle.c_erasure.specs.Scopes.{FileScope, Scope}
-use Rattle.c_annotated.specs.declared.expression.Expression as Program
+use Rattle.c_annotated.specs.Trees as Program
 use Rattle.c_annotated.specs.Views.{expression_of, expressions_of}
 use Rattle.c_erasure.specs.Checking.Answers.{◌>>=◌, refused, Checked, moved, with_file}
 use Rattle.c_erasure.specs.Checking.Finding.{arguments, find, value_at}

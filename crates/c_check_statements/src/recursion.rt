@@ -4,7 +4,7 @@ ghost use Rattle.std.specs.Prelude.{◌≡◌, map, true};
 ghost use Rattle.c_types.specs.Views.{type_of};
 ghost use Rattle.c_ast.specs.Views.{block_item_of, block_items_of, statement_of as tree_of, switch_item_of, switch_items_of};
 ghost use Rattle.c_erasure.specs.BrokenStatements.{no_labels};
-ghost use Rattle.c_annotated.specs.Nodes.{arm_of};
+ghost use Rattle.c_annotated.specs.Views.{arm_of};
 ghost use Rattle.c_annotated.specs.Views.{arms_of, statement_of};
 ghost use Rattle.c_erasure.specs.Checking.Statements.{item_in as item_in_block, items_in as items_in_block, performed as performed_in};
 ghost use Rattle.c_erasure.specs.Checking.Statements.{switch_item as item_of_switch, switch_items as items_of_switch};

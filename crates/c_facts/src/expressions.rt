@@ -23,19 +23,19 @@ pub fn expression(found: &mut Found, context: Context, e: &Expression)
         ExpressionNode::Constant(_) | ExpressionNode::Null => {}
         ExpressionNode::FunctionName(_) => put(found, Fact::Function(e.ty, e.place)),
         ExpressionNode::Load(p) => {
-            put_site(found, true, p);
-            path(found, false, p);
+            put_site(found, true, p.get());
+            path(found, false, p.get());
         }
         ExpressionNode::AddressOf(p) => {
-            put(found, Fact::Value(p.ty));
-            put_taken(found, p);
-            put_site(found, false, p);
-            path(found, false, p);
+            put(found, Fact::Value(p.get().ty));
+            put_taken(found, p.get());
+            put_site(found, false, p.get());
+            path(found, false, p.get());
         }
         ExpressionNode::Decay(p) => {
-            put_taken(found, p);
-            put_site(found, false, p);
-            path(found, false, p);
+            put_taken(found, p.get());
+            put_site(found, false, p.get());
+            path(found, false, p.get());
         }
         ExpressionNode::Convert(x, written) => {
             let which = passes(context, *written);
@@ -70,26 +70,26 @@ pub fn expression(found: &mut Found, context: Context, e: &Expression)
             expression(found, Context::Plain, y.get());
         }
         ExpressionNode::Assign(p, x) => {
-            put_site(found, false, p);
-            path(found, false, p);
-            let within = permitted_if(is_object(p) && is_made(x.get()));
+            put_site(found, false, p.get());
+            path(found, false, p.get());
+            let within = permitted_if(is_object(p.get()) && is_made(x.get()));
             expression(found, within, x.get());
         }
         ExpressionNode::AssignOp(_, p, x) => {
-            put_site(found, true, p);
-            path(found, false, p);
+            put_site(found, true, p.get());
+            path(found, false, p.get());
             expression(found, Context::Plain, x.get());
         }
         ExpressionNode::Step(_, _, p) => {
-            put_site(found, true, p);
-            path(found, false, p);
+            put_site(found, true, p.get());
+            path(found, false, p.get());
         }
         ExpressionNode::CopyRecord(to, from) => {
-            put(found, Fact::Copied(to.ty, e.place));
-            put_site(found, false, to);
-            path(found, false, to);
-            put_site(found, true, from);
-            path(found, false, from);
+            put(found, Fact::Copied(to.get().ty, e.place));
+            put_site(found, false, to.get());
+            path(found, false, to.get());
+            put_site(found, true, from.get());
+            path(found, false, from.get());
         }
         ExpressionNode::Call(_, all) => expressions(found, Context::Plain, all.as_slice()),
         ExpressionNode::CallThrough(x, all) => {

@@ -2,8 +2,7 @@
 
 ghost use Rattle.std.specs.Prelude.{flat_map, map};
 ghost use Rattle.std.specs.Option.{option_map};
-ghost use Rattle.c_typed.specs.RunCounts.Loops.{arm_of};
-ghost use Rattle.c_typed.specs.Views.{arms_of, expression_of, initializer_of, part_of, part_value_of, path_of, statement_of, statements_of};
+ghost use Rattle.c_typed.specs.Views.{arm_of, arms_of, expression_of, initializer_of, part_of, part_value_of, path_of, statement_of, statements_of};
 ghost use Rattle.c_facts.specs.Facts.{effect, facts_by_arms, facts_by_initial, facts_by_statement, facts_by_statements, facts_by_value, read_whole, tested};
 ghost use Rattle.c_facts.specs.Puts.{Puts};
 
@@ -27,7 +26,7 @@ fn value(found: &mut Found, it: &PartValue)
 {
     match it {
         PartValue::Value(e) => expression(found, Context::Plain, e.get()),
-        PartValue::Record(p) => read_whole(found, p),
+        PartValue::Record(p) => read_whole(found, p.get()),
         PartValue::Text(_) => {}
     }
 }
@@ -46,7 +45,7 @@ fn initial(found: &mut Found, it: &Option<Initializer>)
     match it {
         None => {}
         Some(Initializer::Value(e)) => expression(found, Context::Plain, e.get()),
-        Some(Initializer::Record(p)) => read_whole(found, p),
+        Some(Initializer::Record(p)) => read_whole(found, p.get()),
         Some(Initializer::Parts(all)) => parts(found, all.as_slice()),
     }
 }

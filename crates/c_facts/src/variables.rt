@@ -18,7 +18,7 @@ pub fn is_variable(e: &Expression) -> bool
     ensures { result ≡ is_variable (expression_of e.now) }
 {
     match &e.node {
-        ExpressionNode::Load(p) => is_object(p),
+        ExpressionNode::Load(p) => is_object(p.get()),
         _ => false,
     }
 }
@@ -44,7 +44,7 @@ pub fn is_making(e: &Expression) -> bool
     ensures { result ≡ is_making (expression_of e.now) }
 {
     match &e.node {
-        ExpressionNode::Assign(p, x) => is_object(p) && is_made(x.get()),
+        ExpressionNode::Assign(p, x) => is_object(p.get()) && is_made(x.get()),
         _ => false,
     }
 }

@@ -45,8 +45,8 @@ fn told_by_conversion(
 ) -> Result<(), NoMemory>
     ensures { OnOk result (mentions_in found.new ≡ mentions_in found.old ++ of_conversion (type_of t.now) (typed (expression_of e.now))) }
 {
-    if is_pointer(t) && is_pointer(&e.ty) && !same(t, &e.ty) && !is_null_node(e) {
-        let from = copy(alloc, &e.ty)?;
+    if is_pointer(t) && is_pointer(&e.ty.ty) && !same(t, &e.ty.ty) && !is_null_node(e) {
+        let from = copy(alloc, &e.ty.ty)?;
         add_mention(found, MentionKind::From, from, e.place)?;
         let to = copy(alloc, t)?;
         add_mention(found, MentionKind::To, to, e.place)
@@ -65,7 +65,7 @@ fn told_by_expression(
 {
     match &e.node {
         ExpressionNode::FunctionName(_) => {
-            let ty = copy(alloc, &e.ty)?;
+            let ty = copy(alloc, &e.ty.ty)?;
             add_mention(found, MentionKind::Used, ty, e.place)
         }
         ExpressionNode::Load(p) | ExpressionNode::AddressOf(p) | ExpressionNode::Decay(p) => {
@@ -73,7 +73,7 @@ fn told_by_expression(
         }
         ExpressionNode::Convert(x, _) => {
             told_by_expression(alloc, found, x.get())?;
-            told_by_conversion(alloc, found, &e.ty, x.get())
+            told_by_conversion(alloc, found, &e.ty.ty, x.get())
         }
         ExpressionNode::Unary(_, x) | ExpressionNode::Not(x) => {
             told_by_expression(alloc, found, x.get())

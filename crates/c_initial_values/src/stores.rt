@@ -44,7 +44,7 @@ fn add_value(
     match initial_value(records, objects, e) {
         None | Some(Value::Null) => Ok(()),
         Some(value) => {
-            let ty = copy(alloc, &e.ty)?;
+            let ty = copy(alloc, &e.ty.ty)?;
             add_store(found, offset, ty, value)
         }
     }

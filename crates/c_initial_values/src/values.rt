@@ -33,20 +33,20 @@ fn address_in(e: &Expression, records: &Records, objects: &[Object]) -> Option<A
         ExpressionNode::AddressOf(p) => address_of_path(true, p.get(), records, objects),
         ExpressionNode::Decay(p) => address_of_path(false, p.get(), records, objects),
         ExpressionNode::Convert(x, _) => {
-            if is_pointer(&e.ty) {
+            if is_pointer(&e.ty.ty) {
                 address_in(x.get(), records, objects)
             } else {
                 None
             }
         }
         ExpressionNode::PointerAdd(op, x, y) => {
-            let size = element_size(records, &e.ty);
-            if is_pointer(&x.get().ty) {
-                let k = number_in(&y.get().ty, constant_of(y.get()));
+            let size = element_size(records, &e.ty.ty);
+            if is_pointer(&x.get().ty.ty) {
+                let k = number_in(&y.get().ty.ty, constant_of(y.get()));
                 let a = address_in(x.get(), records, objects);
                 moved_by(records, objects, *op, a, k, size)
             } else {
-                let k = number_in(&x.get().ty, constant_of(x.get()));
+                let k = number_in(&x.get().ty.ty, constant_of(x.get()));
                 let a = address_in(y.get(), records, objects);
                 moved(records, objects, a, k, size)
             }
@@ -74,8 +74,8 @@ fn address_of_path(
         }),
         PathNode::Deref(e) => address_in(e.get(), records, objects),
         PathNode::Index(e, i) => {
-            let size = element_size(records, &e.get().ty);
-            let k = number_in(&i.get().ty, constant_of(i.get()));
+            let size = element_size(records, &e.get().ty.ty);
+            let k = number_in(&i.get().ty.ty, constant_of(i.get()));
             let a = address_in(e.get(), records, objects);
             moved(records, objects, a, k, size)
         }
@@ -85,9 +85,9 @@ fn address_of_path(
             field_at(records, objects, a, offset)
         }
         PathNode::Element(p, i) => {
-            let k = number_in(&i.get().ty, constant_of(i.get()));
+            let k = number_in(&i.get().ty.ty, constant_of(i.get()));
             let a = address_of_path(false, p.get(), records, objects);
-            subscripted(records, objects, addressed, &p.get().ty, a, k)
+            subscripted(records, objects, addressed, &p.get().ty.ty, a, k)
         }
     }
 }
@@ -99,7 +99,7 @@ fn function_in(e: &Expression) -> Option<usize>
     match &e.node {
         ExpressionNode::FunctionName(f) => Some(*f),
         ExpressionNode::Convert(x, _) => {
-            if is_pointer(&e.ty) {
+            if is_pointer(&e.ty.ty) {
                 function_in(x.get())
             } else {
                 None
@@ -116,7 +116,7 @@ fn is_null_in(e: &Expression) -> bool
     match &e.node {
         ExpressionNode::Null => true,
         ExpressionNode::Convert(x, _) => {
-            is_pointer(&e.ty) && (is_null(x.get()) || is_null_in(x.get()))
+            is_pointer(&e.ty.ty) && (is_null(x.get()) || is_null_in(x.get()))
         }
         _ => false,
     }
@@ -143,7 +143,7 @@ fn pointer_value(records: &Records, objects: &[Object], e: &Expression) -> Optio
 pub fn initial_value(records: &Records, objects: &[Object], e: &Expression) -> Option<Value>
     ensures { option_map value_of result ≡ initial_value (declared_by records.now objects.now) (typed (expression_of e.now)) }
 {
-    match &e.ty {
+    match &e.ty.ty {
         Ty::Int(kind) => match constant_of(e) {
             Constant::Valued(v) => Some(Value::Number(*kind, v)),
             _ => None,

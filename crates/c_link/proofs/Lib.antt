@@ -15,5 +15,4 @@ pub mod TablesOfUnits
 pub mod TagClashes
 pub mod TextLengths
 pub mod Unlike
-pub mod TreeUses
 pub mod WholeRecords

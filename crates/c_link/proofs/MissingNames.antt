@@ -138,7 +138,7 @@ no_function all n (f ∷ more) h =
     ap (λ them. them ++ missing_functions all (n + 1) more) (defined_nowhere (list_any (is_function n) all) (is_some f.body) t (All-head (λ f. is_some f.body ≡ true) f more h))
     ∙ no_function all (n + 1) more (All-tail (λ f. is_some f.body ≡ true) f more h)
 
-has_body : (o : Option Statement) → is_some o ≡ true → is_some (option_map statement_of o) ≡ true
+has_body : (o : Option (Statement ℕ)) → is_some o ≡ true → is_some (option_map statement_of o) ≡ true
 has_body None h = h
 has_body (Some s) h = refl
 

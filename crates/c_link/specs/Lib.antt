@@ -8,5 +8,4 @@ pub mod Names
 pub mod Programs
 pub mod Repeats
 pub mod Texts
-pub mod TreeUses
 pub mod Views

@@ -3,9 +3,8 @@
 ghost use Rattle.std.specs.Prelude.{◌≡◌, ◌+◌, ◌<◌, ◌^◌, IfOk, OnOk, map};
 ghost use Rattle.std.specs.Option.{option_map};
 ghost use Rattle.c_link.specs.Texts.{rounded, texts_in, texts_in_all, texts_in_arms, texts_in_functions, texts_in_initial, text_bytes};
-ghost use Rattle.c_numbers.specs.NewNumbers.Nodes.{arm_of};
 ghost use Rattle.c_typed.specs.Programs.{data_of};
-ghost use Rattle.c_typed.specs.Views.{arms_of, initializer_of, part_value_of, statement_of, statements_of};
+ghost use Rattle.c_typed.specs.Views.{arm_of, arms_of, initializer_of, part_value_of, statement_of, statements_of};
 
 use c_typed::{Arm, Function, Initializer, PartValue, Statement};
 use lay_base::{List, NoMemory, add};

@@ -5,14 +5,14 @@ ghost use Rattle.c_link.specs.Clashes.{trouble_of};
 ghost use Rattle.c_link.specs.Gaps.{HasNone, IsEarliest, IsMissing, all_missing};
 ghost use Rattle.c_link.specs.Missing.{functions_nowhere, key_of, keys_of, objects_nowhere};
 ghost use Rattle.c_typed.specs.Programs.{data_of, program_data};
-ghost use Rattle.c_link.specs.TreeUses.Uses.{reference_of};
 ghost use Rattle.c_numbers.specs.KeyNumbers.Keys.{is_among};
+ghost use Rattle.c_walks.specs.NodeTypes.{reference_of};
 
 use crate::held::held_by;
-use crate::tree_uses::Reference;
 use crate::troubles::{Trouble, add_trouble, earliest};
 use c_numbers::KeyTable;
 use c_typed::{Function, Object, Typed};
+use c_walks::Reference;
 use lay_base::{List, NoMemory, copied};
 use std::alloc::Global;
 

@@ -78,7 +78,7 @@ fn have_none(leasts: &[Option<usize>]) -> bool
 }
 
 /// The least number found before and in the types that are held. Where no type has one, nothing has to be asked of the trees.
-#[tactic(auto, using(crate::proofs::OpenStructures::none_lesser))]
+#[tactic(auto, using(crate::proofs::OpenStructures::none_lesser), unfolding(c_walks::specs::NodeTypes::types_found))]
 fn least_in_held(
     alloc: Global,
     p: &Typed,
@@ -94,7 +94,7 @@ fn least_in_held(
     let numbers = held.types.as_slice();
     let mut best = best;
     for number in numbers {
-        if let Some(Some(n)) = leasts.get(*number) {
+        if let Some(Some(n)) = leasts.get(**number) {
             best = lesser_of(best, *n);
         }
     }

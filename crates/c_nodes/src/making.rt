@@ -7,12 +7,12 @@ ghost use Rattle.c_types.specs.Views.{type_of};
 ghost use Rattle.c_erasure.specs.Broken.{ill_typed, misplaced as misplaced_in};
 ghost use Rattle.c_erasure.specs.Noted.{a_value, an_object, is_copy, value_of};
 ghost use Rattle.c_erasure.specs.Checking.Nodes.{a_node, a_way, converted, worth as worth_of};
-ghost use Rattle.c_annotated.specs.Nodes.{node_of, path_node_of};
+ghost use Rattle.c_annotated.specs.Views.{node_of, path_node_of};
 ghost use Rattle.c_annotated.specs.Views.{expression_of, path_of, thing_of};
 ghost use Rattle.c_nodes.specs.Gives.{Gives};
 
 use crate::fault::Fault;
-use c_annotated::{Expression, ExpressionNode, Path, PathNode, Thing};
+use c_annotated::{Expression, ExpressionNode, Path, PathNode, Thing, plain};
 use c_types::{IntKind, Ty, copy, same};
 use lay_base::{Boxed, NoMemory, Place, Rule, boxed, shared};
 use std::alloc::Global;
@@ -38,8 +38,7 @@ pub fn value(alloc: Global, ty: Ty, place: Place, node: ExpressionNode) -> Resul
     Ok(boxed(
         alloc,
         Expression {
-            ty,
-            note: None,
+            ty: plain(ty),
             place,
             node,
         },
@@ -57,7 +56,14 @@ pub fn node(alloc: Global, ty: Ty, place: Place, node: ExpressionNode) -> Result
 pub fn way(alloc: Global, ty: Ty, place: Place, node: PathNode) -> Result<Thing, Fault>
     ensures { Gives thing_of result (a_way (type_of ty) place (path_node_of node)) }
 {
-    Ok(Thing::Object(boxed(alloc, Path { ty, place, node })?))
+    Ok(Thing::Object(boxed(
+        alloc,
+        Path {
+            ty: plain(ty),
+            place,
+            node,
+        },
+    )?))
 }
 
 /// A type as that of a pointer to it.
@@ -71,7 +77,7 @@ pub fn pointer_to(alloc: Global, t: Ty) -> Result<Ty, NoMemory>
 pub fn convert(alloc: Global, t: &Ty, x: Value) -> Result<Value, NoMemory>
     ensures { IfOk result (λ e. expression_of e ≡ converted (type_of t.now) (expression_of x)) }
 {
-    if same(&x.get().ty, t) {
+    if same(&x.get().ty.ty, t) {
         return Ok(x);
     }
     let ty = copy(alloc, t)?;
@@ -79,8 +85,7 @@ pub fn convert(alloc: Global, t: &Ty, x: Value) -> Result<Value, NoMemory>
     boxed(
         alloc,
         Expression {
-            ty,
-            note: None,
+            ty: plain(ty),
             place,
             node: ExpressionNode::Convert(x, false),
         },
@@ -101,9 +106,9 @@ pub fn object_value(alloc: Global, p: Boxed<Path>) -> Result<Option<Value>, NoMe
     ensures { IfOk result (λ o. option_map expression_of o ≡ value_of (an_object (path_of p))) }
 {
     let place = p.get().place;
-    let (ty, is_array) = match &p.get().ty {
+    let (ty, is_array) = match &p.get().ty.ty {
         Ty::Int(kind) => (Ty::Int(*kind), false),
-        Ty::Pointer(_) => (copy(alloc, &p.get().ty)?, false),
+        Ty::Pointer(_) => (copy(alloc, &p.get().ty.ty)?, false),
         Ty::Array(element, _) => (pointer_to(alloc, copy(alloc, element.get())?)?, true),
         _ => return Ok(None),
     };
@@ -115,8 +120,7 @@ pub fn object_value(alloc: Global, p: Boxed<Path>) -> Result<Option<Value>, NoMe
     Ok(Some(boxed(
         alloc,
         Expression {
-            ty,
-            note: None,
+            ty: plain(ty),
             place,
             node,
         },
@@ -140,8 +144,7 @@ pub fn worth(alloc: Global, at: u32, thing: Thing) -> Result<Value, Fault>
             Ok(boxed(
                 alloc,
                 Expression {
-                    ty,
-                    note: None,
+                    ty: plain(ty),
                     place,
                     node,
                 },

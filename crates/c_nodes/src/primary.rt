@@ -11,7 +11,7 @@ ghost use Rattle.c_nodes.specs.Gives.{Gives};
 
 use crate::fault::Fault;
 use crate::making::{node, pointer_to, way};
-use c_annotated::{Entity, Expression, ExpressionNode, PathNode, Thing};
+use c_annotated::{Entity, Expression, ExpressionNode, PathNode, Thing, plain};
 use c_types::{IntKind, Ty, copy};
 use lay_base::{Name, NoMemory, Place, Rule, boxed, copied};
 use std::alloc::Global;
@@ -22,8 +22,7 @@ pub fn unmade(alloc: Global, at: Place, t: &Ty) -> Result<Thing, Fault>
 {
     let ty = pointer_to(alloc, copy(alloc, t)?)?;
     let null = Expression {
-        ty,
-        note: None,
+        ty: plain(ty),
         place: at,
         node: ExpressionNode::Null,
     };

@@ -15,7 +15,7 @@ ghost use Rattle.c_nodes.specs.Sizing.{sized_in, sized_view, with_size};
 
 use crate::fault::Fault;
 use crate::making::misplaced;
-use c_annotated::{Expression, ExpressionNode, SizeOf, Thing};
+use c_annotated::{Expression, ExpressionNode, Noted, SizeOf, Thing};
 use c_types::{IntKind, Records, Ty, checked_size_of, copy, is_object, parts};
 use lay_base::{NoMemory, Place, Rule, boxed};
 use std::alloc::Global;
@@ -105,8 +105,8 @@ fn measured_type(alloc: Global, thing: &Thing) -> Result<Option<Ty>, NoMemory>
     ensures { IfOk result (λ t. option_map type_of t ≡ type_measured (thing_of thing.now)) }
 {
     match thing {
-        Thing::Object(p) => Ok(Some(copy(alloc, &p.get().ty)?)),
-        Thing::Value(e) => Ok(Some(copy(alloc, &e.get().ty)?)),
+        Thing::Object(p) => Ok(Some(copy(alloc, &p.get().ty.ty)?)),
+        Thing::Value(e) => Ok(Some(copy(alloc, &e.get().ty.ty)?)),
         _ => Ok(None),
     }
 }
@@ -142,8 +142,10 @@ pub fn size_constant(alloc: Global, at: Place, it: SizedType) -> Result<Thing, F
         },
     )?;
     let constant = Expression {
-        ty: Ty::Int(IntKind::UInt),
-        note: Some(note),
+        ty: Noted {
+            ty: Ty::Int(IntKind::UInt),
+            note: Some(note),
+        },
         place: at,
         node: ExpressionNode::Constant(it.size),
     };

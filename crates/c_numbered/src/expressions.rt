@@ -1,12 +1,11 @@
 //! Expressions and paths with numbers of types.
 
 ghost use Rattle.std.specs.Prelude.{◌≡◌, IfOk, map};
-ghost use Rattle.c_annotated.specs.Nodes.{node_of as noted_node, path_node_of as noted_path_node};
+ghost use Rattle.c_annotated.specs.Views.{node_of as noted_node, path_node_of as noted_path_node};
 ghost use Rattle.c_annotated.specs.Views.{expression_of as noted_expression, expressions_of as noted_expressions, path_of as noted_path};
 ghost use Rattle.c_numbered.specs.Numbered.{numbered};
-ghost use Rattle.c_numbers.specs.NewNumbers.Nodes.{node_of, path_node_of};
 ghost use Rattle.c_typed.specs.Mapped.{mapped, mapped_all, mapped_node, mapped_path, mapped_step};
-ghost use Rattle.c_typed.specs.Views.{expression_of, expressions_of, path_of};
+ghost use Rattle.c_typed.specs.Views.{expression_of, expressions_of, node_of, path_node_of, path_of};
 
 use c_numbers::TypeTable;
 use c_typed::{Expression, ExpressionNode, Path, PathNode};
@@ -21,7 +20,7 @@ pub fn expression(
 ) -> Result<Expression, NoMemory>
     ensures { IfOk result (λ r. expression_of r ≡ mapped (numbered types.now) (noted_expression e.now)) }
 {
-    let ty = types.number(alloc, &e.ty)?;
+    let ty = types.number(alloc, &e.ty.ty)?;
     let node = node_in(alloc, types, &e.node)?;
     Ok(Expression {
         ty,
@@ -182,17 +181,20 @@ pub fn path(
     alloc: Global,
     types: &TypeTable,
     p: &Boxed<c_annotated::Path>,
-) -> Result<Path, NoMemory>
+) -> Result<Boxed<Path>, NoMemory>
     ensures { IfOk result (λ r. path_of r ≡ mapped_path (numbered types.now) (noted_path p.now)) }
 {
     let p = p.get();
-    let ty = types.number(alloc, &p.ty)?;
+    let ty = types.number(alloc, &p.ty.ty)?;
     let node = path_node(alloc, types, &p.node)?;
-    Ok(Path {
-        ty,
-        place: p.place,
-        node,
-    })
+    boxed(
+        alloc,
+        Path {
+            ty,
+            place: p.place,
+            node,
+        },
+    )
 }
 
 #[cycle(expression_numbering)]
@@ -216,25 +218,13 @@ fn path_node(
             Ok(PathNode::Index(e, i))
         }
         c_annotated::PathNode::Member(p, r, field) => {
-            let p = inner_path(alloc, types, p)?;
+            let p = path(alloc, types, p)?;
             Ok(PathNode::Member(p, *r, *field))
         }
         c_annotated::PathNode::Element(p, i) => {
             let i = operand(alloc, types, i)?;
-            let p = inner_path(alloc, types, p)?;
+            let p = path(alloc, types, p)?;
             Ok(PathNode::Element(p, i))
         }
     }
-}
-
-#[cycle(expression_numbering)]
-fn inner_path(
-    alloc: Global,
-    types: &TypeTable,
-    p: &Boxed<c_annotated::Path>,
-) -> Result<Boxed<Path>, NoMemory>
-    ensures { IfOk result (λ r. path_of r ≡ mapped_path (numbered types.now) (noted_path p.now)) }
-{
-    let p = path(alloc, types, p)?;
-    boxed(alloc, p)
 }

@@ -2,13 +2,12 @@
 
 ghost use Rattle.std.specs.Prelude.{◌≡◌, IfOk, map};
 ghost use Rattle.std.specs.Option.{option_map};
-ghost use Rattle.c_annotated.specs.Nodes.{arm_of as noted_arm};
+ghost use Rattle.c_annotated.specs.Views.{arm_of as noted_arm};
 ghost use Rattle.c_annotated.specs.Views.{arms_of as noted_arms, expression_of as noted_expression, statement_of as noted_statement};
 ghost use Rattle.c_annotated.specs.Views.{statements_of as noted_statements};
 ghost use Rattle.c_numbered.specs.Numbered.{numbered, numbered_arm};
-ghost use Rattle.c_numbers.specs.NewNumbers.Nodes.{arm_of};
 ghost use Rattle.c_typed.specs.Mapped.{mapped, mapped_arms, mapped_statement, mapped_statements};
-ghost use Rattle.c_typed.specs.Views.{arms_of, expression_of, statement_of, statements_of};
+ghost use Rattle.c_typed.specs.Views.{arm_of, arms_of, expression_of, statement_of, statements_of};
 
 use crate::expressions::operand;
 use crate::initializers::{optional_expression, optional_initializer};

@@ -2,18 +2,16 @@
 use Rattle.std.proofs.Common.{◌≡◌, ℕ, ◌<◌, ◌≤◌, Bool, true, false, List, [], ◌∷◌, length, map, refl, ap, sym, ◌∙◌, arith, rules}
 use Rattle.std.specs.Prelude.{if◌then◌else◌, IsTrue, Option, Some, None, is_some}
 use Rattle.lay_base.specs.declared.place.Place.{Place}
-use Rattle.c_types.specs.Views.{type_of}
 use Rattle.c_typed.specs.declared.operators.LibraryFunction.{LibraryFunction}
 use Rattle.c_typed.specs.declared.operators.LibraryFunction.TheVariants.{Malloc, Calloc, Free, Memcpy, Memmove, Memset, Memcmp, Putchar, Getchar, Exit}
 use Rattle.c_typed.specs.Trees as Trees
-use Rattle.c_annotated.specs.declared.expression.Expression.{Expression, the_lemmas}
-use Rattle.c_annotated.specs.declared.expression.ExpressionNode.TheVariants as E
-use Rattle.c_annotated.specs.Nodes.{node_of}
-use Rattle.c_annotated.specs.Views.{expression_of, expressions_of, note_of}
+use Rattle.c_annotated.specs.Trees.{Expression}
+use Rattle.c_typed.specs.declared.expression.Expression.{the_lemmas}
+use Rattle.c_typed.specs.declared.expression.ExpressionNode.TheVariants as E
+use Rattle.c_annotated.specs.Views.{expression_of, expressions_of, node_of, noted_of}
 use Rattle.c_erasure.specs.Noted.{Noted}
 use Rattle.c_erasure.specs.Recognised.{allocated, allocation, as_unsigned, is_size}
 use Rattle.c_recognised.specs.Calls.{by_call, malloc_count, calloc_count}
-use Rattle.c_recognised.proofs.Notes.{expression_is}
 
 abbrev pub listed : List Expression → Trees.Expressions Noted
 listed all = expressions_of (map expression_of all)
@@ -51,12 +49,12 @@ calloc_found r t at all = any_allocated (calloc_count r all) true ∙ sym (ap is
 node_is : (which : LibraryFunction) (all : List Expression) → node_of (E.Library which all) ≡ Trees.library which (listed all)
 node_is which all = search (rules, the_lemmas)
 
-abbrev noted : Expression → Noted
-noted e = record { ty = type_of e.ty; note = note_of e.note }
+expression_is : (e : Expression) → expression_of e ≡ Trees.expression (noted_of e.ty) e.place (node_of e.node)
+expression_is e = search (rules, the_lemmas)
 
 call_is : (e : Expression) (which : LibraryFunction) (all : List Expression) → e.node ≡ E.Library which all
-    → expression_of e ≡ Trees.expression (noted e) e.place (Trees.library which (listed all))
-call_is e which all i = expression_is e ∙ ap (Trees.expression (noted e) e.place) (ap node_of i ∙ node_is which all)
+    → expression_of e ≡ Trees.expression (noted_of e.ty) e.place (Trees.library which (listed all))
+call_is e which all i = expression_is e ∙ ap (Trees.expression (noted_of e.ty) e.place) (ap node_of i ∙ node_is which all)
 
 by_arguments : (r : ℕ) (t : Noted) (at : Place) (which : LibraryFunction) (all : Trees.Expressions Noted)
     → allocation r (Trees.expression t at (Trees.library which all)) ≡ by_call r which all
@@ -73,7 +71,7 @@ by_arguments r t at Exit all = refl
 
 pub of_call : (r : ℕ) (e : Expression) (which : LibraryFunction) (all : List Expression) → e.node ≡ E.Library which all
     → allocation r (expression_of e) ≡ by_call r which (listed all)
-of_call r e which all i = ap (allocation r) (call_is e which all i) ∙ by_arguments r (noted e) e.place which (listed all)
+of_call r e which all i = ap (allocation r) (call_is e which all i) ∙ by_arguments r (noted_of e.ty) e.place which (listed all)
 
 pub malloc_of_more : (r : ℕ) (all : List Expression) → 2 ≤ length all → false ≡ is_some (malloc_count r (listed all))
 malloc_of_more r [] n = absurd (omega (arith, n))

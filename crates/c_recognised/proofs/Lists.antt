@@ -6,10 +6,10 @@ use Rattle.c_erasure.specs.Recognised.{recognised, recognised_all}
 use Rattle.c_erasure.specs.Units.{recognised_arms, recognised_statement, recognised_statements}
 use Rattle.c_annotated.specs.Views.{arms_of, expression_of, expressions_of, statement_of, statements_of}
 use Rattle.c_typed.specs.Trees
-use Rattle.c_annotated.specs.declared.expression.Expression.{Expression}
-use Rattle.c_annotated.specs.declared.statement.Arm.{Arm}
-use Rattle.c_annotated.specs.declared.statement.Statement.{Statement}
-use Rattle.c_annotated.specs.Nodes.{arm_of}
+use Rattle.c_annotated.specs.Trees.{Expression}
+use Rattle.c_annotated.specs.Trees.{Arm}
+use Rattle.c_annotated.specs.Trees.{Statement}
+use Rattle.c_annotated.specs.Views.{arm_of}
 use Rattle.c_recognised.specs.Arms.{recognised_arm}
 
 listed : (all : List Expression) → expressions_of (map (λ e. recognised (expression_of e)) all)

@@ -1,9 +1,10 @@
 -- Statements with a part that may be absent.
 use Rattle.std.proofs.Common.{◌≡◌, ap, ◌∙◌, sym, rules}
 use Rattle.std.specs.Prelude.{Some}
-use Rattle.c_annotated.specs.declared.expression.Expression.{Expression}
-use Rattle.c_annotated.specs.declared.statement.Statement.{Statement, the_lemmas}
-use Rattle.c_annotated.specs.declared.statement.Statement.TheVariants as S
+use Rattle.c_annotated.specs.Trees.{Expression}
+use Rattle.c_annotated.specs.Trees.{Statement}
+use Rattle.c_typed.specs.declared.statement.Statement.{the_lemmas}
+use Rattle.c_typed.specs.declared.statement.Statement.TheVariants as S
 use Rattle.c_annotated.specs.Views.{expression_of, statement_of}
 use Rattle.c_erasure.specs.Recognised.{recognised}
 use Rattle.c_erasure.specs.Units.{recognised_statement}

@@ -1,6 +1,6 @@
 -- Calls with other numbers of arguments have no size operand.
 use Rattle.std.proofs.Common.{◌≡◌, ℕ, ◌<◌, ◌≤◌, List, [], ◌∷◌, length, refl, arith}
-use Rattle.c_annotated.specs.declared.expression.Expression.{Expression}
+use Rattle.c_annotated.specs.Trees.{Expression}
 use Rattle.c_recognised.specs.Operands.{calloc_place, malloc_place}
 use Rattle.c_recognised.proofs.Calls.{listed}
 

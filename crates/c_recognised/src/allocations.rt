@@ -6,7 +6,7 @@ ghost use Rattle.c_annotated.specs.Views.{expression_of, expressions_of, optiona
 ghost use Rattle.c_erasure.specs.Recognised.{allocation, is_null_constant};
 ghost use Rattle.c_recognised.specs.Calls.{by_call, calloc_count, malloc_count};
 ghost use Rattle.c_recognised.specs.Conversions.{allocated_by, became, is_fit, may_allocate, reconverted};
-ghost use Rattle.c_annotated.specs.Nodes.{node_of};
+ghost use Rattle.c_annotated.specs.Views.{node_of};
 ghost use Rattle.c_types.specs.Sameness.{same_type};
 ghost use Rattle.c_types.specs.Types.{pointer, void};
 ghost use Rattle.c_types.specs.Views.{type_of};
@@ -127,8 +127,8 @@ fn is_null_constant(e: &Expression) -> bool
     ensures { result ≡ is_null_constant (expression_of e.now) }
 {
     match &e.node {
-        ExpressionNode::Null => is_void_pointer(&e.ty),
-        _ => is_integer(&e.ty),
+        ExpressionNode::Null => is_void_pointer(&e.ty.ty),
+        _ => is_integer(&e.ty.ty),
     }
 }
 

@@ -1,23 +1,18 @@
 //! Expressions and paths with allocations of records and null pointers recognised.
 
 ghost use Rattle.std.specs.Prelude.{◌≡◌, ◌++◌, OnOk, map};
-ghost use Rattle.c_annotated.specs.Views.{expression_of, expressions_of, path_of};
-ghost use Rattle.c_erasure.specs.Noted.{plain};
+ghost use Rattle.c_annotated.specs.Views.{expression_of, expressions_of, node_of, noted_of, path_node_of, path_of};
 ghost use Rattle.c_erasure.specs.Recognised.{recognised, recognised_all, recognised_node, recognised_path, recognised_step};
 ghost use Rattle.c_erasure.specs.SizeOperands.{operands_in, operands_in_all, operands_in_node, operands_in_path, operands_in_step};
-ghost use Rattle.c_annotated.specs.Nodes.{node_of, path_node_of};
-ghost use Rattle.c_types.specs.Views.{type_of};
 
 use crate::allocations::converted;
 use crate::operands::{add_place, size_operand};
-use c_annotated::{Expression, ExpressionNode, Path, PathNode};
-use c_types::Ty;
+use c_annotated::{Expression, ExpressionNode, Noted, Path, PathNode};
 use lay_base::{List, NoMemory};
 use std::alloc::Global;
 
 /// Recognises what stands in an expression, and adds where the size operands of its allocations stand.
 #[cycle(expression_recognition)]
-#[tactic(auto, using(crate::proofs::Notes::with_node))]
 pub fn expression(
     alloc: Global,
     places: &mut List<usize>,
@@ -26,7 +21,7 @@ pub fn expression(
     ensures tree { OnOk result (expression_of e.new ≡ recognised (expression_of e.old)) }
     ensures places { OnOk result (places.new ≡ places.old ++ operands_in (expression_of e.old)) }
 {
-    let place = size_operand(&e.ty, &e.node);
+    let place = size_operand(&e.ty.ty, &e.node);
     node_in(alloc, places, &mut e.node, &e.ty)?;
     add_place(places, place)
 }
@@ -36,9 +31,9 @@ fn node_in(
     alloc: Global,
     places: &mut List<usize>,
     node: &mut ExpressionNode,
-    t: &Ty,
+    t: &Noted,
 ) -> Result<(), NoMemory>
-    ensures tree { OnOk result (node_of node.new ≡ recognised_node (plain (type_of t.now)) (node_of node.old)) }
+    ensures tree { OnOk result (node_of node.new ≡ recognised_node (noted_of t.now) (node_of node.old)) }
     ensures places { OnOk result (places.new ≡ places.old ++ operands_in_node (node_of node.old)) }
 {
     match node {
@@ -50,7 +45,7 @@ fn node_in(
         ExpressionNode::Decay(p) => path(alloc, places, p.get_mut()),
         ExpressionNode::Convert(x, _) => {
             expression(alloc, places, x.get_mut())?;
-            converted(alloc, node, t)
+            converted(alloc, node, &t.ty)
         }
         ExpressionNode::Unary(_, x) => expression(alloc, places, x.get_mut()),
         ExpressionNode::Binary(_, x, y) => {

@@ -1,7 +1,7 @@
 //! Where the `sizeof` stands that is the size operand of an allocation.
 
 ghost use Rattle.std.specs.Prelude.{◌≡◌, ◌++◌, OnOk, map};
-ghost use Rattle.c_annotated.specs.Nodes.{node_of};
+ghost use Rattle.c_annotated.specs.Views.{node_of};
 ghost use Rattle.c_annotated.specs.Views.{expression_of, expressions_of};
 ghost use Rattle.c_erasure.specs.SizeOperands.{bytes_place, call_place, constant_place, size_operand, size_place};
 ghost use Rattle.c_erasure.specs.Units.{if_any};
@@ -21,7 +21,7 @@ fn constant_place(r: usize, e: &Expression) -> Option<usize>
     if !is_constant_of(r, e) {
         return None;
     }
-    match &e.note {
+    match &e.ty.note {
         None => None,
         Some(size) => Some(size.get().at as usize),
     }

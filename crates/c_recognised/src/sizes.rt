@@ -11,7 +11,7 @@ ghost use Rattle.c_types.specs.Types.{integer, structure};
 ghost use Rattle.c_types.specs.declared.ty.IntKind.TheVariants.{UInt};
 ghost use Rattle.c_types.specs.Views.{type_of};
 
-use c_annotated::{Expression, ExpressionNode, SizeOf};
+use c_annotated::{Expression, ExpressionNode, SizeOf, plain};
 use c_typed::BinaryOp;
 use c_types::{IntKind, Ty};
 use lay_base::{Boxed, NoMemory, Place, boxed};
@@ -43,7 +43,7 @@ pub fn lent_unconverted(e: &Expression) -> &Expression
     ensures { expression_of result.now ≡ unconverted (expression_of e.now) }
 {
     match &e.node {
-        ExpressionNode::Convert(x, false) => match &e.note {
+        ExpressionNode::Convert(x, false) => match &e.ty.note {
             None => x.get(),
             Some(_) => e,
         },
@@ -56,8 +56,7 @@ fn take(e: &mut Expression) -> Expression
     ensures { result ≡ e.old }
 {
     let left = Expression {
-        ty: Ty::Void,
-        note: None,
+        ty: plain(Ty::Void),
         place: e.place,
         node: ExpressionNode::Constant(0),
     };
@@ -69,7 +68,7 @@ pub fn is_constant_of(r: usize, e: &Expression) -> bool
     ensures { result ≡ is_constant_of r (expression_of e.now) }
 {
     match &e.node {
-        ExpressionNode::Constant(_) => is_note_of(r, &e.note),
+        ExpressionNode::Constant(_) => is_note_of(r, &e.ty.note),
         _ => false,
     }
 }
@@ -86,7 +85,7 @@ fn is_product_of(r: usize, e: &Expression) -> bool
     ensures { result ≡ is_some (counted r (expression_of e.now)) }
 {
     match &e.node {
-        ExpressionNode::Constant(_) => is_note_of(r, &e.note),
+        ExpressionNode::Constant(_) => is_note_of(r, &e.ty.note),
         ExpressionNode::Binary(BinaryOp::Multiply, x, y) => is_size(r, y.get())
             || is_size(r, x.get()),
         _ => false,
@@ -111,8 +110,7 @@ fn to_unsigned(e: Boxed<Expression>, place: Place) -> Expression
     ensures { expression_of result ≡ value (integer UInt) place (Trees.convert (expression_of e) false) }
 {
     Expression {
-        ty: Ty::Int(IntKind::UInt),
-        note: None,
+        ty: plain(Ty::Int(IntKind::UInt)),
         place,
         node: ExpressionNode::Convert(e, false),
     }
@@ -123,7 +121,7 @@ fn as_unsigned_from(alloc: Global, e: &mut Expression) -> Result<Boxed<Expressio
     ensures { IfOk result (λ r. expression_of r ≡ as_unsigned_from (expression_of e.old)) }
 {
     let place = e.place;
-    let is_other = !is_unsigned(&e.ty);
+    let is_other = !is_unsigned(&e.ty.ty);
     let e = boxed(alloc, take(e))?;
     if is_other {
         boxed(alloc, to_unsigned(e, place))
@@ -137,7 +135,7 @@ pub fn as_unsigned(alloc: Global, e: &mut Expression) -> Result<Boxed<Expression
     ensures { IfOk result (λ r. expression_of r ≡ as_unsigned (expression_of e.old)) }
 {
     match &mut e.node {
-        ExpressionNode::Convert(x, false) if e.note.is_none() => as_unsigned_from(
+        ExpressionNode::Convert(x, false) if e.ty.note.is_none() => as_unsigned_from(
             alloc,
             x.get_mut(),
         ),
@@ -155,7 +153,7 @@ fn counted_from(
     ensures { IfOk result (λ count. counted r (expression_of e.old) ≡ Some (optional_of (option_map expression_of count))) }
 {
     match &mut e.node {
-        ExpressionNode::Constant(_) if is_note_of(r, &e.note) => Ok(None),
+        ExpressionNode::Constant(_) if is_note_of(r, &e.ty.note) => Ok(None),
         ExpressionNode::Binary(BinaryOp::Multiply, x, y) => {
             if is_size(r, y.get()) {
                 let x = as_unsigned(alloc, x.get_mut())?;
@@ -181,12 +179,8 @@ pub fn counted(
     requires { IsTrue (is_some (counted r (unconverted (expression_of e.old)))) }
     ensures { IfOk result (λ count. counted r (unconverted (expression_of e.old)) ≡ Some (optional_of (option_map expression_of count))) }
 {
-    match &mut e.node {
-        ExpressionNode::Convert(x, false) if e.note.is_none() => counted_from(
-            alloc,
-            r,
-            x.get_mut(),
-        ),
+    match (&mut e.node, &e.ty.note) {
+        (ExpressionNode::Convert(x, false), None) => counted_from(alloc, r, x.get_mut()),
         _ => counted_from(alloc, r, e),
     }
 }

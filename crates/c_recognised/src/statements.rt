@@ -4,7 +4,7 @@ ghost use Rattle.std.specs.Prelude.{◌≡◌, ◌++◌, OnOk, map};
 ghost use Rattle.c_annotated.specs.Views.{arms_of, statement_of, statements_of};
 ghost use Rattle.c_erasure.specs.SizeOperands.{operands_in_arms, operands_in_statement, operands_in_statements};
 ghost use Rattle.c_erasure.specs.Units.{recognised_arms, recognised_statement, recognised_statements};
-ghost use Rattle.c_annotated.specs.Nodes.{arm_of};
+ghost use Rattle.c_annotated.specs.Views.{arm_of};
 
 use crate::expressions::expression;
 use crate::initializers::{optional_expression, optional_initializer};

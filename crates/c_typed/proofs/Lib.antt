@@ -1,6 +1,4 @@
 mod ExamplesOfValues
 mod ExamplesOfFits
 mod ExamplesOfTyped
-pub mod TypeLists
-pub mod Nulls
 pub mod RunCounts

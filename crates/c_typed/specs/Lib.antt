@@ -1,4 +1,5 @@
 pub mod Trees
+pub mod TreeViews
 pub mod Views
 pub mod Mapped
 pub mod Walk

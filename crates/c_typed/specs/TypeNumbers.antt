@@ -1,20 +1,14 @@
--- Expressions of the program with the types for which their numbers stand.
-use Rattle.std.specs.Prelude.{ℕ, Bool, true, false, List, map, slice_get, unwrap_or, Option, Some, None}
+-- The types for which numbers stand.
+use Rattle.std.specs.Prelude.{ℕ, Bool, true, false, List, slice_get, unwrap_or, Option, Some, None}
 use Rattle.std.specs.Option.{option_map}
 use Rattle.c_types.specs.declared.ty.Ty.{Ty}
 use Rattle.c_types.specs.Types.{CType, void, pointer}
 use Rattle.c_types.specs.Views.{type_of}
-use Rattle.c_typed.specs.declared.expression.Expression.{Expression}
-use Rattle.c_typed.specs.Mapped.{of_types, mapped}
 use Rattle.c_typed.specs.Trees
-use Rattle.c_typed.specs.Views.{expression_of}
 
 -- the type with a number in a list, and `void` past its end
 abbrev pub type_at : List CType → ℕ → CType
 type_at types number = unwrap_or (slice_get types number) void
-
-abbrev pub with_types : List Ty → Expression → Trees.Expression CType
-with_types types e = mapped (of_types (type_at (map type_of types))) (expression_of e)
 
 -- ---- what private functions answer
 

@@ -18,7 +18,7 @@ mod run_counts;
 mod statement;
 mod values;
 
-pub use constants::{Constant, constant_of, is_null};
+pub use constants::Constant;
 pub use conversions::{
     adjusted, as_kind, common_kind, is_array, is_function, is_integer, is_pointer, is_record,
     is_scalar, is_signed, promoted_kind,

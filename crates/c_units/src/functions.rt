@@ -2,6 +2,7 @@
 
 ghost use Rattle.std.specs.Prelude.{◌≡◌, ◌++◌, ◌<◌, ◌^◌, List as Sequence, IfOk, OnOk, flat_map, fold, map};
 ghost use Rattle.c_annotated.specs.FileViews.{function_of, local_of};
+ghost use Rattle.c_annotated.specs.Views.{noted_of};
 ghost use Rattle.c_erasure.specs.Units.{is_among};
 ghost use Rattle.c_numbers.specs.TypeNumbers.Adding.{with_type};
 ghost use Rattle.c_typed.specs.Programs.{data_of};
@@ -11,14 +12,13 @@ ghost use Rattle.c_units.specs.CollectedTypes.{function_types};
 ghost use Rattle.c_units.specs.SizeOperands.{operands_in, operands_of};
 ghost use Rattle.c_units.specs.NumberedParts.{function_in, locals_in, taken_in};
 ghost use Rattle.c_units.specs.RecognisedParts.{recognised_function};
-ghost use Rattle.c_walks.specs.NodeTypes.{taken_in as walked, types_found};
 
 use crate::objects::name_of;
+use c_annotated::Noted;
 use c_numbered::optional_statement;
 use c_numbers::{NumberSet, TypeTable};
 use c_recognised::recognise_statement;
 use c_typed::{Function, Local, is_scalar};
-use c_types::Ty;
 use c_walks::{Nodes, walk_statement};
 use lay_base::{List, NoMemory, add};
 use std::alloc::Global;
@@ -38,36 +38,26 @@ fn recognise(
     }
 }
 
-fn add_local_types<'a>(found: &mut Nodes<'a>, all: &'a [c_annotated::Local]) -> Result<(), NoMemory>
-    ensures types { OnOk result (types_found found.new ≡ types_found found.old ++ map (λ l. l.ty) (map local_of all.now)) }
-    ensures taken { OnOk result (walked found.new ≡ walked found.old) }
+/// Adds the types of locals to a table.
+fn add_local_types(
+    alloc: Global,
+    types: &mut TypeTable,
+    all: &[c_annotated::Local],
+) -> Result<(), NoMemory>
+    ensures { OnOk result (map type_of types.new ≡ fold with_type (map type_of types.old) (map (λ l. l.ty) (map local_of all.now))) }
 {
     for l in all {
-        found.add(&l.ty)?;
+        types.add_copy(alloc, &l.ty)?;
     }
     Ok(())
 }
 
-/// What stands in a function: its types, and the locals whose address it takes.
-fn add_nodes<'a>(found: &mut Nodes<'a>, f: &'a c_annotated::Function) -> Result<(), NoMemory>
-    ensures types { OnOk result (types_found found.new ≡ types_found found.old ++ function_types (function_of f.now)) }
-    ensures taken { OnOk result (walked found.new ≡ walked found.old ++ taken_in (function_of f.now)) }
-{
-    found.add(&f.ty)?;
-    add_local_types(found, f.parameters.as_slice())?;
-    add_local_types(found, f.locals.as_slice())?;
-    match &f.body {
-        None => Ok(()),
-        Some(body) => walk_statement(found, body),
-    }
-}
-
-/// Adds types to a table.
-fn add_found(alloc: Global, types: &mut TypeTable, found: &[&Ty]) -> Result<(), NoMemory>
-    ensures { OnOk result (map type_of types.new ≡ fold with_type (map type_of types.old) (map (λ t. type_of t.now) found.now)) }
+/// Adds the types at nodes to a table.
+fn add_found(alloc: Global, types: &mut TypeTable, found: &[&Noted]) -> Result<(), NoMemory>
+    ensures { OnOk result (map type_of types.new ≡ fold with_type (map type_of types.old) (map (λ t. t.ty) (map (λ t. noted_of t.now) found.now))) }
 {
     for t in found {
-        types.add_copy(alloc, *t)?;
+        types.add_copy(alloc, &t.ty)?;
     }
     Ok(())
 }
@@ -93,8 +83,13 @@ fn add_types(
     ensures types { OnOk result (map type_of types.new ≡ fold with_type (map type_of types.old) (function_types (function_of f.now))) }
     ensures taken { IfOk result (λ set. is_among set ≡ is_among (taken_in (function_of f.now))) }
 {
+    types.add_copy(alloc, &f.ty)?;
+    add_local_types(alloc, types, f.parameters.as_slice())?;
+    add_local_types(alloc, types, f.locals.as_slice())?;
     let mut found = Nodes::new(alloc);
-    add_nodes(&mut found, f)?;
+    if let Some(body) = &f.body {
+        walk_statement(&mut found, body)?;
+    }
     add_found(alloc, types, found.types.as_slice())?;
     set_of(alloc, found.taken.as_slice())
 }

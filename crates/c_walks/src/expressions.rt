@@ -1,20 +1,21 @@
 //! What stands at the nodes of expressions and paths.
 
 ghost use Rattle.std.specs.Prelude.{◌≡◌, ◌++◌, OnOk, map};
-ghost use Rattle.c_annotated.specs.Nodes.{node_of, path_node_of};
-ghost use Rattle.c_annotated.specs.Views.{expression_of, expressions_of, path_of};
 ghost use Rattle.c_typed.specs.Addressed.{addressed, addressed_by_all, addressed_by_node, addressed_by_path, addressed_by_step, itself};
+ghost use Rattle.c_typed.specs.References.{references, references_by_all, references_by_node, references_by_path, references_by_step};
+ghost use Rattle.c_typed.specs.TreeViews.{expression_of, expressions_of, node_of, path_node_of, path_of};
 ghost use Rattle.c_typed.specs.Walk.{types_in, types_in_all, types_in_node, types_in_path, types_in_step};
-ghost use Rattle.c_walks.specs.NodeTypes.{taken_in, types_found};
+ghost use Rattle.c_walks.specs.NodeTypes.{references_in, taken_in, types_found};
 
-use crate::nodes::Nodes;
-use c_annotated::{Expression, ExpressionNode, Path, PathNode};
+use crate::nodes::{NodeType, Nodes, Reference};
+use c_typed::{Expression, ExpressionNode, Path, PathNode};
 use lay_base::NoMemory;
 
 /// A local whose address is taken.
-fn add_itself<'a>(found: &mut Nodes<'a>, p: &'a Path) -> Result<(), NoMemory>
-    ensures types { OnOk result (types_found found.new ≡ types_found found.old) }
-    ensures taken { OnOk result (taken_in found.new ≡ taken_in found.old ++ itself (path_of p.now)) }
+fn add_itself<'a, T: NodeType>(found: &mut Nodes<'a, T>, p: &'a Path<T>) -> Result<(), NoMemory>
+    ensures types { OnOk result (types_found T.seen found.new ≡ types_found T.seen found.old) }
+    ensures taken { OnOk result (taken_in found.new ≡ taken_in found.old ++ itself (path_of T.seen p.now)) }
+    ensures references { OnOk result (references_in found.new ≡ references_in found.old) }
 {
     match &p.node {
         PathNode::Named(n) => found.add_taken(*n),
@@ -23,23 +24,30 @@ fn add_itself<'a>(found: &mut Nodes<'a>, p: &'a Path) -> Result<(), NoMemory>
 }
 
 #[cycle(walk)]
-pub fn walk_expression<'a>(found: &mut Nodes<'a>, e: &'a Expression) -> Result<(), NoMemory>
-    ensures types { OnOk result (types_found found.new ≡ types_found found.old ++ map (λ t. t.ty) (types_in (expression_of e.now))) }
-    ensures taken { OnOk result (taken_in found.new ≡ taken_in found.old ++ addressed (expression_of e.now)) }
+pub fn walk_expression<'a, T: NodeType>(
+    found: &mut Nodes<'a, T>,
+    e: &'a Expression<T>,
+) -> Result<(), NoMemory>
+    ensures types { OnOk result (types_found T.seen found.new ≡ types_found T.seen found.old ++ types_in (expression_of T.seen e.now)) }
+    ensures taken { OnOk result (taken_in found.new ≡ taken_in found.old ++ addressed (expression_of T.seen e.now)) }
+    ensures references { OnOk result (references_in found.new ≡ references_in found.old ++ references (expression_of T.seen e.now)) }
 {
     walk_node(found, &e.node)?;
-    found.add(&e.ty)
+    found.add_type(&e.ty)
 }
 
 #[cycle(walk)]
-fn walk_node<'a>(found: &mut Nodes<'a>, node: &'a ExpressionNode) -> Result<(), NoMemory>
-    ensures types { OnOk result (types_found found.new ≡ types_found found.old ++ map (λ t. t.ty) (types_in_node (node_of node.now))) }
-    ensures taken { OnOk result (taken_in found.new ≡ taken_in found.old ++ addressed_by_node (node_of node.now)) }
+fn walk_node<'a, T: NodeType>(
+    found: &mut Nodes<'a, T>,
+    node: &'a ExpressionNode<T>,
+) -> Result<(), NoMemory>
+    ensures types { OnOk result (types_found T.seen found.new ≡ types_found T.seen found.old ++ types_in_node (node_of T.seen node.now)) }
+    ensures taken { OnOk result (taken_in found.new ≡ taken_in found.old ++ addressed_by_node (node_of T.seen node.now)) }
+    ensures references { OnOk result (references_in found.new ≡ references_in found.old ++ references_by_node (node_of T.seen node.now)) }
 {
     match node {
-        ExpressionNode::Constant(_) | ExpressionNode::Null | ExpressionNode::FunctionName(_) => Ok(
-            (),
-        ),
+        ExpressionNode::Constant(_) | ExpressionNode::Null => Ok(()),
+        ExpressionNode::FunctionName(f) => found.add_reference(Reference::Function(*f)),
         ExpressionNode::Load(p) | ExpressionNode::Decay(p) | ExpressionNode::Step(_, _, p) => {
             walk_path(found, p.get())
         }
@@ -73,10 +81,11 @@ fn walk_node<'a>(found: &mut Nodes<'a>, node: &'a ExpressionNode) -> Result<(), 
             walk_path(found, p.get())?;
             walk_path(found, from.get())
         }
-        ExpressionNode::Call(_, all) | ExpressionNode::Library(_, all) => walk_all(
-            found,
-            all.as_slice(),
-        ),
+        ExpressionNode::Call(f, all) => {
+            found.add_reference(Reference::Function(*f))?;
+            walk_all(found, all.as_slice())
+        }
+        ExpressionNode::Library(_, all) => walk_all(found, all.as_slice()),
         ExpressionNode::CallThrough(x, all) => {
             walk_expression(found, x.get())?;
             walk_all(found, all.as_slice())
@@ -89,21 +98,27 @@ fn walk_node<'a>(found: &mut Nodes<'a>, node: &'a ExpressionNode) -> Result<(), 
 }
 
 #[cycle(walk)]
-pub fn walk_path<'a>(found: &mut Nodes<'a>, p: &'a Path) -> Result<(), NoMemory>
-    ensures types { OnOk result (types_found found.new ≡ types_found found.old ++ map (λ t. t.ty) (types_in_path (path_of p.now))) }
-    ensures taken { OnOk result (taken_in found.new ≡ taken_in found.old ++ addressed_by_path (path_of p.now)) }
+pub fn walk_path<'a, T: NodeType>(found: &mut Nodes<'a, T>, p: &'a Path<T>) -> Result<(), NoMemory>
+    ensures types { OnOk result (types_found T.seen found.new ≡ types_found T.seen found.old ++ types_in_path (path_of T.seen p.now)) }
+    ensures taken { OnOk result (taken_in found.new ≡ taken_in found.old ++ addressed_by_path (path_of T.seen p.now)) }
+    ensures references { OnOk result (references_in found.new ≡ references_in found.old ++ references_by_path (path_of T.seen p.now)) }
 {
     walk_step(found, &p.node)?;
-    found.add(&p.ty)
+    found.add_type(&p.ty)
 }
 
 #[cycle(walk)]
-fn walk_step<'a>(found: &mut Nodes<'a>, step: &'a PathNode) -> Result<(), NoMemory>
-    ensures types { OnOk result (types_found found.new ≡ types_found found.old ++ map (λ t. t.ty) (types_in_step (path_node_of step.now))) }
-    ensures taken { OnOk result (taken_in found.new ≡ taken_in found.old ++ addressed_by_step (path_node_of step.now)) }
+fn walk_step<'a, T: NodeType>(
+    found: &mut Nodes<'a, T>,
+    step: &'a PathNode<T>,
+) -> Result<(), NoMemory>
+    ensures types { OnOk result (types_found T.seen found.new ≡ types_found T.seen found.old ++ types_in_step (path_node_of T.seen step.now)) }
+    ensures taken { OnOk result (taken_in found.new ≡ taken_in found.old ++ addressed_by_step (path_node_of T.seen step.now)) }
+    ensures references { OnOk result (references_in found.new ≡ references_in found.old ++ references_by_step (path_node_of T.seen step.now)) }
 {
     match step {
-        PathNode::Named(_) | PathNode::Object(_) => Ok(()),
+        PathNode::Named(_) => Ok(()),
+        PathNode::Object(n) => found.add_reference(Reference::Object(*n)),
         PathNode::Deref(e) => walk_expression(found, e.get()),
         PathNode::Index(e, i) => {
             walk_expression(found, e.get())?;
@@ -118,9 +133,13 @@ fn walk_step<'a>(found: &mut Nodes<'a>, step: &'a PathNode) -> Result<(), NoMemo
 }
 
 #[cycle(walk)]
-fn walk_all<'a>(found: &mut Nodes<'a>, all: &'a [Expression]) -> Result<(), NoMemory>
-    ensures types { OnOk result (types_found found.new ≡ types_found found.old ++ map (λ t. t.ty) (types_in_all (expressions_of (map expression_of all.now)))) }
-    ensures taken { OnOk result (taken_in found.new ≡ taken_in found.old ++ addressed_by_all (expressions_of (map expression_of all.now))) }
+fn walk_all<'a, T: NodeType>(
+    found: &mut Nodes<'a, T>,
+    all: &'a [Expression<T>],
+) -> Result<(), NoMemory>
+    ensures types { OnOk result (types_found T.seen found.new ≡ types_found T.seen found.old ++ types_in_all (expressions_of (map (expression_of T.seen) all.now))) }
+    ensures taken { OnOk result (taken_in found.new ≡ taken_in found.old ++ addressed_by_all (expressions_of (map (expression_of T.seen) all.now))) }
+    ensures references { OnOk result (references_in found.new ≡ references_in found.old ++ references_by_all (expressions_of (map (expression_of T.seen) all.now))) }
 {
     for e in all {
         walk_expression(found, e)?;

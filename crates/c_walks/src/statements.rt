@@ -2,22 +2,27 @@
 
 ghost use Rattle.std.specs.Prelude.{◌≡◌, ◌++◌, OnOk, flat_map, map};
 ghost use Rattle.std.specs.Option.{option_map};
-ghost use Rattle.c_annotated.specs.Nodes.{arm_of};
-ghost use Rattle.c_annotated.specs.Views.{arms_of, expression_of, initializer_of, part_of, part_value_of, statement_of, statements_of};
 ghost use Rattle.c_typed.specs.Addressed.{addressed_by_arms, addressed_by_initial, addressed_by_statement};
 ghost use Rattle.c_typed.specs.Addressed.{addressed_by_statements, addressed_by_value, addressed_if_any};
+ghost use Rattle.c_typed.specs.References.{references_by_arms, references_by_initial, references_by_statement, references_by_statements};
+ghost use Rattle.c_typed.specs.References.{references_by_value, references_if_any};
+ghost use Rattle.c_typed.specs.TreeViews.{arm_of, arms_of, expression_of, initializer_of, part_of, part_value_of, statement_of, statements_of};
 ghost use Rattle.c_typed.specs.Walk.{types_if_any, types_in_arms, types_in_initial, types_in_statement};
 ghost use Rattle.c_typed.specs.Walk.{types_in_statements, types_in_value};
-ghost use Rattle.c_walks.specs.NodeTypes.{taken_in, types_found};
+ghost use Rattle.c_walks.specs.NodeTypes.{references_in, taken_in, types_found};
 
 use crate::expressions::{walk_expression, walk_path};
-use crate::nodes::Nodes;
-use c_annotated::{Arm, Expression, Initializer, InitializerPart, PartValue, Statement};
+use crate::nodes::{NodeType, Nodes};
+use c_typed::{Arm, Expression, Initializer, InitializerPart, PartValue, Statement};
 use lay_base::{Boxed, NoMemory};
 
-fn walk_value<'a>(found: &mut Nodes<'a>, value: &'a PartValue) -> Result<(), NoMemory>
-    ensures types { OnOk result (types_found found.new ≡ types_found found.old ++ map (λ t. t.ty) (types_in_value (part_value_of value.now))) }
-    ensures taken { OnOk result (taken_in found.new ≡ taken_in found.old ++ addressed_by_value (part_value_of value.now)) }
+fn walk_value<'a, T: NodeType>(
+    found: &mut Nodes<'a, T>,
+    value: &'a PartValue<T>,
+) -> Result<(), NoMemory>
+    ensures types { OnOk result (types_found T.seen found.new ≡ types_found T.seen found.old ++ types_in_value (part_value_of T.seen value.now)) }
+    ensures taken { OnOk result (taken_in found.new ≡ taken_in found.old ++ addressed_by_value (part_value_of T.seen value.now)) }
+    ensures references { OnOk result (references_in found.new ≡ references_in found.old ++ references_by_value (part_value_of T.seen value.now)) }
 {
     match value {
         PartValue::Value(e) => walk_expression(found, e.get()),
@@ -26,9 +31,13 @@ fn walk_value<'a>(found: &mut Nodes<'a>, value: &'a PartValue) -> Result<(), NoM
     }
 }
 
-fn walk_parts<'a>(found: &mut Nodes<'a>, all: &'a [InitializerPart]) -> Result<(), NoMemory>
-    ensures types { OnOk result (types_found found.new ≡ types_found found.old ++ map (λ t. t.ty) (flat_map (λ part. types_in_value part.value) (map part_of all.now))) }
-    ensures taken { OnOk result (taken_in found.new ≡ taken_in found.old ++ flat_map (λ part. addressed_by_value part.value) (map part_of all.now)) }
+fn walk_parts<'a, T: NodeType>(
+    found: &mut Nodes<'a, T>,
+    all: &'a [InitializerPart<T>],
+) -> Result<(), NoMemory>
+    ensures types { OnOk result (types_found T.seen found.new ≡ types_found T.seen found.old ++ flat_map (λ part. types_in_value part.value) (map (part_of T.seen) all.now)) }
+    ensures taken { OnOk result (taken_in found.new ≡ taken_in found.old ++ flat_map (λ part. addressed_by_value part.value) (map (part_of T.seen) all.now)) }
+    ensures references { OnOk result (references_in found.new ≡ references_in found.old ++ flat_map (λ part. references_by_value part.value) (map (part_of T.seen) all.now)) }
 {
     for part in all {
         walk_value(found, &part.value)?;
@@ -36,9 +45,13 @@ fn walk_parts<'a>(found: &mut Nodes<'a>, all: &'a [InitializerPart]) -> Result<(
     Ok(())
 }
 
-fn walk_initial<'a>(found: &mut Nodes<'a>, initial: &'a Option<Initializer>) -> Result<(), NoMemory>
-    ensures types { OnOk result (types_found found.new ≡ types_found found.old ++ map (λ t. t.ty) (types_in_initial (option_map initializer_of initial.now))) }
-    ensures taken { OnOk result (taken_in found.new ≡ taken_in found.old ++ addressed_by_initial (option_map initializer_of initial.now)) }
+fn walk_initial<'a, T: NodeType>(
+    found: &mut Nodes<'a, T>,
+    initial: &'a Option<Initializer<T>>,
+) -> Result<(), NoMemory>
+    ensures types { OnOk result (types_found T.seen found.new ≡ types_found T.seen found.old ++ types_in_initial (option_map (initializer_of T.seen) initial.now)) }
+    ensures taken { OnOk result (taken_in found.new ≡ taken_in found.old ++ addressed_by_initial (option_map (initializer_of T.seen) initial.now)) }
+    ensures references { OnOk result (references_in found.new ≡ references_in found.old ++ references_by_initial (option_map (initializer_of T.seen) initial.now)) }
 {
     match initial {
         None => Ok(()),
@@ -48,9 +61,13 @@ fn walk_initial<'a>(found: &mut Nodes<'a>, initial: &'a Option<Initializer>) -> 
     }
 }
 
-fn walk_if_any<'a>(found: &mut Nodes<'a>, e: &'a Option<Boxed<Expression>>) -> Result<(), NoMemory>
-    ensures types { OnOk result (types_found found.new ≡ types_found found.old ++ map (λ t. t.ty) (types_if_any (option_map expression_of e.now))) }
-    ensures taken { OnOk result (taken_in found.new ≡ taken_in found.old ++ addressed_if_any (option_map expression_of e.now)) }
+fn walk_if_any<'a, T: NodeType>(
+    found: &mut Nodes<'a, T>,
+    e: &'a Option<Boxed<Expression<T>>>,
+) -> Result<(), NoMemory>
+    ensures types { OnOk result (types_found T.seen found.new ≡ types_found T.seen found.old ++ types_if_any (option_map (expression_of T.seen) e.now)) }
+    ensures taken { OnOk result (taken_in found.new ≡ taken_in found.old ++ addressed_if_any (option_map (expression_of T.seen) e.now)) }
+    ensures references { OnOk result (references_in found.new ≡ references_in found.old ++ references_if_any (option_map (expression_of T.seen) e.now)) }
 {
     match e {
         None => Ok(()),
@@ -60,9 +77,13 @@ fn walk_if_any<'a>(found: &mut Nodes<'a>, e: &'a Option<Boxed<Expression>>) -> R
 
 /// Those of a statement.
 #[cycle(statement_walk)]
-pub fn walk_statement<'a>(found: &mut Nodes<'a>, s: &'a Statement) -> Result<(), NoMemory>
-    ensures types { OnOk result (types_found found.new ≡ types_found found.old ++ map (λ t. t.ty) (types_in_statement (statement_of s.now))) }
-    ensures taken { OnOk result (taken_in found.new ≡ taken_in found.old ++ addressed_by_statement (statement_of s.now)) }
+pub fn walk_statement<'a, T: NodeType>(
+    found: &mut Nodes<'a, T>,
+    s: &'a Statement<T>,
+) -> Result<(), NoMemory>
+    ensures types { OnOk result (types_found T.seen found.new ≡ types_found T.seen found.old ++ types_in_statement (statement_of T.seen s.now)) }
+    ensures taken { OnOk result (taken_in found.new ≡ taken_in found.old ++ addressed_by_statement (statement_of T.seen s.now)) }
+    ensures references { OnOk result (references_in found.new ≡ references_in found.old ++ references_by_statement (statement_of T.seen s.now)) }
 {
     match s {
         Statement::Do(e) => walk_expression(found, e.get()),
@@ -100,9 +121,13 @@ pub fn walk_statement<'a>(found: &mut Nodes<'a>, s: &'a Statement) -> Result<(),
 }
 
 #[cycle(statement_walk)]
-fn walk_statements<'a>(found: &mut Nodes<'a>, all: &'a [Statement]) -> Result<(), NoMemory>
-    ensures types { OnOk result (types_found found.new ≡ types_found found.old ++ map (λ t. t.ty) (types_in_statements (statements_of (map statement_of all.now)))) }
-    ensures taken { OnOk result (taken_in found.new ≡ taken_in found.old ++ addressed_by_statements (statements_of (map statement_of all.now))) }
+fn walk_statements<'a, T: NodeType>(
+    found: &mut Nodes<'a, T>,
+    all: &'a [Statement<T>],
+) -> Result<(), NoMemory>
+    ensures types { OnOk result (types_found T.seen found.new ≡ types_found T.seen found.old ++ types_in_statements (statements_of (map (statement_of T.seen) all.now))) }
+    ensures taken { OnOk result (taken_in found.new ≡ taken_in found.old ++ addressed_by_statements (statements_of (map (statement_of T.seen) all.now))) }
+    ensures references { OnOk result (references_in found.new ≡ references_in found.old ++ references_by_statements (statements_of (map (statement_of T.seen) all.now))) }
 {
     for s in all {
         walk_statement(found, s)?;
@@ -111,9 +136,10 @@ fn walk_statements<'a>(found: &mut Nodes<'a>, all: &'a [Statement]) -> Result<()
 }
 
 #[cycle(statement_walk)]
-fn walk_arms<'a>(found: &mut Nodes<'a>, all: &'a [Arm]) -> Result<(), NoMemory>
-    ensures types { OnOk result (types_found found.new ≡ types_found found.old ++ map (λ t. t.ty) (types_in_arms (arms_of (map arm_of all.now)))) }
-    ensures taken { OnOk result (taken_in found.new ≡ taken_in found.old ++ addressed_by_arms (arms_of (map arm_of all.now))) }
+fn walk_arms<'a, T: NodeType>(found: &mut Nodes<'a, T>, all: &'a [Arm<T>]) -> Result<(), NoMemory>
+    ensures types { OnOk result (types_found T.seen found.new ≡ types_found T.seen found.old ++ types_in_arms (arms_of (map (arm_of T.seen) all.now))) }
+    ensures taken { OnOk result (taken_in found.new ≡ taken_in found.old ++ addressed_by_arms (arms_of (map (arm_of T.seen) all.now))) }
+    ensures references { OnOk result (references_in found.new ≡ references_in found.old ++ references_by_arms (arms_of (map (arm_of T.seen) all.now))) }
 {
     for arm in all {
         walk_statements(found, arm.statements.as_slice())?;

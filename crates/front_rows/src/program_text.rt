@@ -10,8 +10,8 @@ use c_typed::{
     Function, Initial, InitialValue, Local, Mention, MentionKind, Object, Statement, Typed,
 };
 use c_types::{Field, Record, Ty};
+use c_walks::{Nodes, Reference, walk_statement};
 use lay_base::{List, Place};
-use lay_compile::{Reference, references_by_statement};
 use lower_tac::lower;
 use row_lines::Writer;
 use std::alloc::Global;
@@ -138,9 +138,9 @@ fn put_allocations(out: &mut Writer, code: &Routine) {
 
 /// What a body refers to, and what it allocates.
 fn put_body(out: &mut Writer, alloc: Global, body: &Statement, code: &Routine) {
-    let mut found = List::new(alloc);
-    match references_by_statement(&mut found, body) {
-        Ok(()) => put_references(out, found.as_slice()),
+    let mut found = Nodes::new(alloc);
+    match walk_statement(&mut found, body) {
+        Ok(()) => put_references(out, found.references.as_slice()),
         Err(_) => out.word("no-memory"),
     }
     put_allocations(out, code);

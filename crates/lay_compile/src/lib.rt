@@ -16,10 +16,10 @@ mod program_files;
 mod refusal_places;
 mod stages;
 
-// What a fault holds, what bodies refer to, and laws of programs: who prints these, or counts, need not name the crates that they are from.
+// What a fault holds, and laws of programs: who prints these, or counts, need not name the crates that they are from.
 pub use c_check::CheckFault;
 pub use c_lexer::LexFault;
-pub use c_link::{Gap, Reference, Trouble, references_by_statement};
+pub use c_link::{Gap, Trouble};
 pub use c_parser::ParseFault;
 pub use c_well_typed::{
     programs_are_within_limits, programs_have_few_functions, programs_have_few_loops,

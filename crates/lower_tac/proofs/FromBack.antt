@@ -1,7 +1,6 @@
 -- Lists that are walked from the back.
 use Rattle.std.specs.Prelude.{min}
-use Rattle.c_typed.specs.RunCounts.Loops.{arm_of}
-use Rattle.c_typed.specs.Views.{arms_of}
+use Rattle.c_typed.specs.Views.{arm_of, arms_of}
 use Rattle.c_typed.specs.declared.statement.Arm.{Arm}
 use Rattle.tac_ir.specs.declared.step.Operand.{Operand}
 use Rattle.tac_ir.specs.declared.step.Target.{Target}
@@ -16,7 +15,7 @@ at_end (x ∷ xs) = at_end xs
 pub one_more : {X : Type 0} (xs : List X) (k n : ℕ) (d : X) → n ≡ k + 1 → k < length xs → drop k xs ≡ get_or xs k d ∷ drop n xs
 one_more xs k n d e h = rw (e, add-one) (drop-cons xs k d h)
 
-pub none_left : (a : Operand) (arms : List Arm) (starts : List Target) (n : ℕ) (code : Steps) → n ≡ min (length arms) (length starts)
+pub none_left : (a : Operand) (arms : List (Arm ℕ)) (starts : List Target) (n : ℕ) (code : Steps) → n ≡ min (length arms) (length starts)
     → dispatch_code a (arms_of (map arm_of (drop n arms))) (drop n starts) code ≡ code
 none_left a [] starts zero code e = refl
 none_left a [] starts (suc n) code e = absurd (omega arith)

@@ -211,7 +211,7 @@ module _ (p : ProgramData) (l : List Local) where
 
   -- ---- arguments: one more has been made, which comes before those
 
-  pub one_more : (ys : List (Bor Made)) (e : Bor Made) (at n : ℕ) (c0 c1 c2 c3 : Steps) → at ≡ suc n
+  pub one_more : (ys : List (Bor (Made ℕ))) (e : Bor (Made ℕ)) (at n : ℕ) (c0 c1 c2 c3 : Steps) → at ≡ suc n
       → c1 ≡ arguments_code p l (expressions_of (map expression_of (reverse (map (λ e. e.now) ys)))) at c0
       → c2 ≡ tested_if (part_of p l (expression_of e.now) (value_code p l (expression_of e.now))).lacks
       (part_of p l (expression_of e.now) (value_code p l (expression_of e.now))).at n c1
@@ -219,21 +219,21 @@ module _ (p : ProgramData) (l : List Local) where
       → c3 ≡ arguments_code p l (expressions_of (map expression_of (reverse (map (λ e. e.now) (ys ++ e ∷ []))))) n c0
   one_more ys e at n c0 c1 c2 c3 place made test value =
       let x = part_of p l (expression_of e.now) (value_code p l (expression_of e.now)) in
-      let back : reverse (map (λ (e : Bor Made). e.now) (ys ++ e ∷ [])) ≡ e.now ∷ reverse (map (λ (e : Bor Made). e.now) ys) =
-      ap reverse (map-append (λ (e : Bor Made). e.now) ys (e ∷ [])) ∙ reverse-append (map (λ (e : Bor Made). e.now) ys) (e.now ∷ []) in
+      let back : reverse (map (λ (e : Bor (Made ℕ)). e.now) (ys ++ e ∷ [])) ≡ e.now ∷ reverse (map (λ (e : Bor (Made ℕ)). e.now) ys) =
+      ap reverse (map-append (λ (e : Bor (Made ℕ)). e.now) ys (e ∷ [])) ∙ reverse-append (map (λ (e : Bor (Made ℕ)). e.now) ys) (e.now ∷ []) in
       let before : c1 ≡ arguments_code p l (expressions_of (map expression_of (reverse (map (λ e. e.now) ys)))) (suc n) c0 =
-      made ∙ ap (λ m. arguments_code p l (expressions_of (map expression_of (reverse (map (λ (e : Bor Made). e.now) ys)))) m c0) place in
+      made ∙ ap (λ m. arguments_code p l (expressions_of (map expression_of (reverse (map (λ (e : Bor (Made ℕ)). e.now) ys)))) m c0) place in
       value ∙ ap (value_code p l (expression_of e.now) n n) (test ∙ ap (tested_if x.lacks x.at n) before)
-      ∙ ap (λ (more : List Made). arguments_code p l (expressions_of (map expression_of more)) n c0) (sym back)
+      ∙ ap (λ (more : List (Made ℕ)). arguments_code p l (expressions_of (map expression_of more)) n c0) (sym back)
 
   -- ---- all have been made
 
-  pub told : (ys : List (Bor Made)) (all : List Made) (at d : ℕ) (c0 c1 : Steps) → map (λ e. e.now) ys ≡ reverse all → at + length ys ≡ d + length all
+  pub told : (ys : List (Bor (Made ℕ))) (all : List (Made ℕ)) (at d : ℕ) (c0 c1 : Steps) → map (λ e. e.now) ys ≡ reverse all → at + length ys ≡ d + length all
       → c1 ≡ arguments_code p l (expressions_of (map expression_of (reverse (map (λ e. e.now) ys)))) at c0
       → c1 ≡ arguments_code p l (expressions_of (map expression_of all)) d c0
   told ys all at d c0 c1 e sum made =
-      let back : reverse (map (λ (e : Bor Made). e.now) ys) ≡ all = back_is ys all e in
+      let back : reverse (map (λ (e : Bor (Made ℕ)). e.now) ys) ≡ all = back_is ys all e in
       let count : length ys ≡ length all = simp (length-map, length-reverse) at (ap length e) in
       let start : at ≡ d = omega (arith, count, sum) in
-      made ∙ ap (λ (more : List Made). arguments_code p l (expressions_of (map expression_of more)) at c0) back
+      made ∙ ap (λ (more : List (Made ℕ)). arguments_code p l (expressions_of (map expression_of more)) at c0) back
       ∙ ap (λ (n : ℕ). arguments_code p l (expressions_of (map expression_of all)) n c0) start

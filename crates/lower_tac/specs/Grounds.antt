@@ -25,11 +25,11 @@ abbrev pub locals_in : Ground → List Local
 locals_in g = all_locals (data_of g.function.now)
 
 -- an expression whose value is used
-abbrev pub part_in : Ground → Expression → Part
+abbrev pub part_in : Ground → Expression ℕ → Part
 part_in g e = part_of (program_in g) (locals_in g) (expression_of e) (value_code (program_in g) (locals_in g) (expression_of e))
 
 -- a path whose address is used
-abbrev pub place_in : Ground → Path → Part
+abbrev pub place_in : Ground → Path ℕ → Part
 place_in g q = place_of (program_in g) (locals_in g) (path_of q) (path_code (program_in g) (locals_in g) false (path_of q))
 
 -- ---- assignments, whose results may be dropped
@@ -110,8 +110,8 @@ module _ (p : ProgramData) (locals : List Local) where
       both_code (to_value p locals e) (to_value p locals i) d (λ a b. S.ElementField to at (size_at p u) (kind_of (type_at p (ty i))) by a b ∷ code)
   member_shown q at by to d code = part_code p locals (named_root p locals q) at by (to_place p locals q) to d code
 
-abbrev pub stored_in : Ground → Expression → Option ℕ → (d : ℕ) → Steps → Steps
+abbrev pub stored_in : Ground → Expression ℕ → Option ℕ → (d : ℕ) → Steps → Steps
 stored_in g e = stored_code (program_in g) (locals_in g) (expression_of e)
 
-abbrev pub address_in : Ground → (addressed : Bool) → Path → Place → (to d : ℕ) → Steps → Steps
+abbrev pub address_in : Ground → (addressed : Bool) → Path ℕ → Place → (to d : ℕ) → Steps → Steps
 address_in g addressed q = addressed_code (program_in g) (locals_in g) addressed (path_of q)

@@ -1,8 +1,7 @@
 //! Where a `switch` leads to (C99 6.8.4.2).
 
 ghost use Rattle.std.specs.Prelude.{◌≡◌, map};
-ghost use Rattle.c_typed.specs.RunCounts.Loops.{arm_of};
-ghost use Rattle.c_typed.specs.Views.{arms_of};
+ghost use Rattle.c_typed.specs.Views.{arm_of, arms_of};
 ghost use Rattle.lower_tac.specs.Statements.{cases_code, default_start, dispatch_code};
 ghost use Rattle.lower_tac.specs.Writing.{Wrote};
 

@@ -28,15 +28,15 @@ impl Ground<'_> {
             ExpressionNode::Constant(v) => w.put(Step::Set(to, Operand::Word(*v))),
             ExpressionNode::Null => w.put(Step::Set(to, Operand::Null)),
             ExpressionNode::FunctionName(f) => w.put(Step::Set(to, Operand::Function(*f))),
-            ExpressionNode::Load(q) => match self.named_root(q) {
+            ExpressionNode::Load(q) => match self.named_root(q.get()) {
                 Some(x) => w.put(Step::Set(to, Operand::Temp(UndefinedKind::Empty, x, at))),
                 None => {
-                    self.put_load(w, e.ty, at, q, to, d);
-                    self.place(w, ALONE, q, d);
+                    self.put_load(w, e.ty, at, q.get(), to, d);
+                    self.place(w, ALONE, q.get(), d);
                 }
             },
-            ExpressionNode::AddressOf(q) => self.address(w, true, q, at, to, d),
-            ExpressionNode::Decay(q) => self.address(w, false, q, at, to, d),
+            ExpressionNode::AddressOf(q) => self.address(w, true, q.get(), at, to, d),
+            ExpressionNode::Decay(q) => self.address(w, false, q.get(), at, to, d),
             ExpressionNode::Convert(x, _) => {
                 if self.is_void(e.ty) {
                     w.put(Step::Clear(to));
@@ -132,47 +132,50 @@ impl Ground<'_> {
     {
         let at = e.place;
         match &e.node {
-            ExpressionNode::Assign(q, x) => match self.named_root(q) {
+            ExpressionNode::Assign(q, x) => match self.named_root(q.get()) {
                 Some(n) => {
                     self.put_named(w, at, n, x.get(), to);
                     self.value(w, x.get(), n, d);
                 }
                 None => {
-                    self.put_store(w, e.ty, at, q, x.get(), to, d, d + 1);
+                    self.put_store(w, e.ty, at, q.get(), x.get(), to, d, d + 1);
                     self.part(w, ALONE, x.get(), d + 1);
-                    self.place(w, self.atom(x.get()), q, d);
+                    self.place(w, self.atom(x.get()), q.get(), d);
                 }
             },
-            ExpressionNode::AssignOp(op, q, x) => match self.named_root(q) {
+            ExpressionNode::AssignOp(op, q, x) => match self.named_root(q.get()) {
                 Some(n) => {
                     self.put_named_update(w, e.ty, at, *op, n, x.get(), to, d);
                     self.part(w, ALONE, x.get(), d);
                 }
                 None => {
-                    self.put_placed_update(w, e.ty, at, *op, q, x.get(), to, d, d + 1, d + 2);
+                    self.put_placed_update(w, e.ty, at, *op, q.get(), x.get(), to, d, d + 1, d + 2);
                     self.part(w, None, x.get(), d + 1);
-                    self.place(w, None, q, d);
+                    self.place(w, None, q.get(), d);
                 }
             },
-            ExpressionNode::Step(op, before, q) => match self.named_root(q) {
+            ExpressionNode::Step(op, before, q) => match self.named_root(q.get()) {
                 Some(n) => self.put_named_step(w, e.ty, at, *op, n, *before, d, to),
                 None => {
-                    self.put_placed_step(w, e.ty, at, *op, q, *before, to, d, d + 1, d + 2);
-                    self.place(w, None, q, d);
+                    self.put_placed_step(w, e.ty, at, *op, q.get(), *before, to, d, d + 1, d + 2);
+                    self.place(w, None, q.get(), d);
                 }
             },
-            ExpressionNode::CopyRecord(q, r) => match (self.named_root(q), self.named_root(r)) {
+            ExpressionNode::CopyRecord(q, r) => match (
+                self.named_root(q.get()),
+                self.named_root(r.get()),
+            ) {
                 (None, None) => {
-                    self.put_copy(w, at, q, r, to, d, d + 1);
-                    self.place(w, ALONE, r, d + 1);
-                    self.place(w, self.place_atom(r), q, d);
+                    self.put_copy(w, at, q.get(), r.get(), to, d, d + 1);
+                    self.place(w, ALONE, r.get(), d + 1);
+                    self.place(w, self.place_atom(r.get()), q.get(), d);
                 }
                 (Some(_), _) | (None, Some(_)) => {
                     w.put(Step::Fail(UndefinedKind::Dead, at));
-                    self.put_place_test(w, r, d + 1);
-                    self.path(w, false, r, d + 1, d + 1);
-                    self.put_place_test(w, q, d);
-                    self.path(w, false, q, d, d);
+                    self.put_place_test(w, r.get(), d + 1);
+                    self.path(w, false, r.get(), d + 1, d + 1);
+                    self.put_place_test(w, q.get(), d);
+                    self.path(w, false, q.get(), d, d);
                 }
             },
             _ => {}

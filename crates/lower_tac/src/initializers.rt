@@ -65,7 +65,7 @@ impl Ground<'_> {
     {
         match &one.value {
             PartValue::Value(e) => self.put_value(draft, x, one.offset, e.get()),
-            PartValue::Record(q) => self.put_record(draft, x, one.offset, q),
+            PartValue::Record(q) => self.put_record(draft, x, one.offset, q.get()),
             PartValue::Text(bytes) => draft.put_text(self.alloc, x, one.offset, bytes),
         }
     }
@@ -90,7 +90,7 @@ impl Ground<'_> {
     {
         match (block, i) {
             (true, Initializer::Value(e)) => self.put_value(draft, x, 0, e.get()),
-            (true, Initializer::Record(q)) => self.put_record(draft, x, 0, q),
+            (true, Initializer::Record(q)) => self.put_record(draft, x, 0, q.get()),
             (true, Initializer::Parts(all)) => {
                 self.put_parts(draft, x, all.as_slice());
                 draft.put(Step::Zeros(x, size));

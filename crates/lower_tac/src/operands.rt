@@ -142,7 +142,7 @@ impl Ground<'_> {
             ExpressionNode::Constant(v) => Some(Operand::Word(*v)),
             ExpressionNode::Null => Some(Operand::Null),
             ExpressionNode::FunctionName(f) => Some(Operand::Function(*f)),
-            ExpressionNode::Load(q) => match self.named_root(q) {
+            ExpressionNode::Load(q) => match self.named_root(q.get()) {
                 None => None,
                 Some(x) => Some(Operand::Temp(UndefinedKind::Empty, x, e.place)),
             },
@@ -192,7 +192,7 @@ impl Ground<'_> {
                 Sort::Void => true,
                 Sort::Number(_) | Sort::Pointer | Sort::Other => false,
             },
-            ExpressionNode::AddressOf(q) | ExpressionNode::Decay(q) => self.place_lacks(q),
+            ExpressionNode::AddressOf(q) | ExpressionNode::Decay(q) => self.place_lacks(q.get()),
             ExpressionNode::Cond(_, y, z) => self.lacks(y.get()) || self.lacks(z.get()),
             ExpressionNode::Comma(_, y) => self.lacks(y.get()),
             ExpressionNode::CopyRecord(_, _)

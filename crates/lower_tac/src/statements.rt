@@ -2,8 +2,7 @@
 
 ghost use Rattle.std.specs.Prelude.{◌≡◌, ◌+◌, ◌<◌, ◌≤◌, ◌^◌, map, reverse};
 ghost use Rattle.std.specs.Option.{option_map};
-ghost use Rattle.c_typed.specs.RunCounts.Loops.{arm_of};
-ghost use Rattle.c_typed.specs.Views.{arms_of, expression_of, statement_of, statements_of};
+ghost use Rattle.c_typed.specs.Views.{arm_of, arms_of, expression_of, statement_of, statements_of};
 ghost use Rattle.lower_tac.specs.Asked.{asked, asked_by_arms, asked_by_statement, asked_by_statements, asked_if_any};
 ghost use Rattle.lower_tac.specs.Drafts.{ArmsDrafted, Drafted, before_arms, body_in};
 ghost use Rattle.lower_tac.specs.Grounds.{locals_in, program_in};

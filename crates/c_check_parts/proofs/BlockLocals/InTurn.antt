@@ -10,7 +10,7 @@ use Rattle.c_typed.specs.Trees as Typed
 use Rattle.c_erasure.specs.Declarators.{declared_name}
 use Rattle.c_erasure.specs.Scopes.{Scope}
 use Rattle.c_erasure.specs.Statements.{Statements, followed_by}
-use Rattle.c_annotated.specs.declared.statement.Statement.{Statement}
+use Rattle.c_annotated.specs.Trees.{Statement}
 use Rattle.c_annotated.specs.Views.{AStatement, statement_of, statements_of}
 use Rattle.c_erasure.specs.Checking.Answers.{◌>>=◌}
 use Rattle.c_erasure.specs.Checking.Statements.{Performed, declare_all, declare_named}

@@ -9,7 +9,7 @@ use Rattle.c_typed.specs.Trees as Typed
 use Rattle.c_erasure.specs.Noted.{Noted}
 use Rattle.c_erasure.specs.Scopes.{AnObject, Scope}
 use Rattle.c_erasure.specs.Statements.{Statements, with_object}
-use Rattle.c_annotated.specs.declared.statement.Statement.{Statement as Tree}
+use Rattle.c_annotated.specs.Trees.{Statement as Tree}
 use Rattle.c_annotated.specs.Views.{statement_of}
 use Rattle.c_erasure.specs.Checking.Answers.{Answer, ◌>>=◌, moved}
 use Rattle.c_erasure.specs.Checking.Declaring.{Derivation, base_kind, derived}

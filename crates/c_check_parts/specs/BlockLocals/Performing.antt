@@ -5,7 +5,7 @@ use Rattle.c_erasure.specs.Scopes as Scopes
 use Rattle.c_erasure.specs.Scopes.{in_full}
 use Rattle.c_erasure.specs.Statements.{Statements, followed_by}
 use Rattle.c_annotated.specs.declared.file.Local.{Local}
-use Rattle.c_annotated.specs.declared.statement.Statement.{Statement}
+use Rattle.c_annotated.specs.Trees.{Statement}
 use Rattle.c_annotated.specs.FileViews.{local_of}
 use Rattle.c_annotated.specs.Views.{statement_of, statements_of}
 use Rattle.c_erasure.specs.Checking.Answers.{◌>>=◌}

@@ -11,7 +11,7 @@ use Rattle.c_erasure.specs.Initializers.{Part}
 use Rattle.c_erasure.specs.Noted.{Noted}
 use Rattle.c_erasure.specs.Scopes.{Scope}
 use Rattle.lay_base.specs.declared.faults.Rule.TheVariants as R
-use Rattle.c_annotated.specs.declared.statement.InitializerPart.{InitializerPart}
+use Rattle.c_annotated.specs.Trees.{InitializerPart}
 use Rattle.c_annotated.specs.Views.{part_of}
 use Rattle.c_erasure.specs.Checking.Answers.{◌>>=◌, Checked, refused}
 use Rattle.c_erasure.specs.Checking.Finding.{find}

@@ -30,7 +30,7 @@ fn record(from: u32, at: u32, t: &Ty, thing: Thing) -> Result<InitializerPart, F
 {
     match thing {
         Thing::Object(p) => {
-            if same(&p.get().ty, t) {
+            if same(&p.get().ty.ty, t) {
                 Ok(InitializerPart {
                     offset: at,
                     value: PartValue::Record(p),

@@ -11,7 +11,7 @@ use Rattle.c_typed.specs.Trees as Typed
 use Rattle.c_erasure.specs.BrokenStatements.{Labels}
 use Rattle.c_erasure.specs.Scopes.{Scope}
 use Rattle.c_erasure.specs.Statements.{Arms, Statements, followed_by, with_first}
-use Rattle.c_annotated.specs.declared.statement.Statement.{Statement}
+use Rattle.c_annotated.specs.Trees.{Statement}
 use Rattle.c_annotated.specs.Views.{OneArm, arms_of}
 use Rattle.c_erasure.specs.Checking.Answers.{◌>>=◌}
 use Rattle.c_erasure.specs.Checking.Statements.{Found, Performed, arranged, local_declaration, switch_item, switch_items}

@@ -5,7 +5,7 @@ ghost use Rattle.c_ast.specs.Views.{declaration_of};
 ghost use Rattle.c_typed.specs.Trees.{no_statements};
 ghost use Rattle.c_erasure.specs.Checking.Statements.{local_declaration as local_declaration_in};
 ghost use Rattle.c_erasure.specs.Statements.{followed_by};
-ghost use Rattle.c_annotated.specs.Nodes.{arm_of};
+ghost use Rattle.c_annotated.specs.Views.{arm_of};
 ghost use Rattle.c_check_parts.specs.BlockLocals.Parts.{alone};
 ghost use Rattle.c_check_parts.specs.BlockLocals.Performing.{Performs, body_of, standing};
 ghost use Rattle.c_check_statements.specs.StatementParts.Arms.{arms_with, last_arm_of, unless_empty, went_on, with_closed};

@@ -4,7 +4,7 @@ ghost use Rattle.std.specs.Prelude.{◌≡◌, ◌++◌, IfOk, Ok, OnOk, map};
 ghost use Rattle.std.specs.Option.{option_map};
 ghost use Rattle.c_typed.specs.Trees as Typed;
 ghost use Rattle.c_typed.specs.TypedStatements.{declared_by, declared_by_arms};
-ghost use Rattle.c_annotated.specs.Nodes.{arm_of};
+ghost use Rattle.c_annotated.specs.Views.{arm_of};
 ghost use Rattle.c_annotated.specs.Views.{arms_of, expression_of, statement_of, statements_of};
 ghost use Rattle.c_nodes.specs.Gives.{Gives};
 ghost use Rattle.c_nodes.specs.OperatorNodes.Parts.{switch_view};

@@ -9,8 +9,8 @@ use Rattle.c_typed.specs.Trees
 use Rattle.c_typed.specs.Conversions.{promoted}
 use Rattle.c_typed.specs.Rules.{promoting}
 use Rattle.c_erasure.specs.Noted.{Expression, type_of, value}
-use Rattle.c_annotated.specs.declared.expression.Expression as Tree
-use Rattle.c_annotated.specs.declared.expression.Expression.{the_lemmas}
+use Rattle.c_annotated.specs.Trees as Tree
+use Rattle.c_typed.specs.declared.expression.Expression.{the_lemmas}
 use Rattle.c_annotated.specs.Views.{expression_of}
 use Rattle.c_types.specs.Views as View
 use Rattle.c_erasure.specs.Checking.Nodes.{place_of, converted, promoted_value}
@@ -30,5 +30,5 @@ promoted_is t kind h = cc
 pub promoted_number : (x : Expression) (kind : IntKind) → Some (integer kind) ≡ promoting (type_of x) → converted (integer kind) x ≡ promoted_value x
 promoted_number x kind h = ap (λ t. converted t x) (promoted_is (type_of x) kind h)
 
-pub type_seen : (e : Tree.Expression) → View.type_of e.ty ≡ type_of (expression_of e)
+pub type_seen : (e : Tree.Expression) → View.type_of e.ty.ty ≡ type_of (expression_of e)
 type_seen e = search (rules, the_lemmas)

@@ -25,7 +25,7 @@ pub struct Integer {
 pub fn constant(at: u32, x: &Expression) -> Result<Integer, Fault>
     ensures { Gives integer_view result (constant_in at (expression_of x.now)) }
 {
-    match (&x.ty, constant_of(x)) {
+    match (&x.ty.ty, constant_of(x)) {
         (Ty::Int(kind), Constant::Valued(value)) => Ok(Integer { kind: *kind, value }),
         _ => Err(Fault::IllTyped(Rule::Constant, at)),
     }

@@ -27,7 +27,7 @@ pub enum Target {
 pub fn tested(at: u32, x: Value) -> Result<Value, Fault>
     ensures { Gives expression_of result (tested_in at (expression_of x)) }
 {
-    if is_scalar(&x.get().ty) {
+    if is_scalar(&x.get().ty.ty) {
         Ok(x)
     } else {
         Err(Fault::IllTyped(Rule::Operands, at))
@@ -41,9 +41,9 @@ pub fn chosen(begin: Start, colon: u32, x: Value, y: Value, z: Value) -> Result<
 {
     let y_null = is_null(y.get());
     let z_null = is_null(z.get());
-    match choosing(&y.get().ty, y_null, &z.get().ty, z_null) {
+    match choosing(&y.get().ty.ty, y_null, &z.get().ty.ty, z_null) {
         Some(common) => {
-            let t = type_in_common(begin.alloc, &y.get().ty, &z.get().ty, common)?;
+            let t = type_in_common(begin.alloc, &y.get().ty.ty, &z.get().ty.ty, common)?;
             let y = convert(begin.alloc, &t, y)?;
             let z = convert(begin.alloc, &t, z)?;
             node(begin.alloc, t, begin.place, ExpressionNode::Cond(x, y, z))
@@ -58,7 +58,7 @@ pub fn target_in(from: u32, thing: Thing) -> Result<Target, Fault>
     ensures { Gives target_view result (target_in from (thing_of thing)) }
 {
     match thing {
-        Thing::Object(p) => match &p.get().ty {
+        Thing::Object(p) => match &p.get().ty.ty {
             Ty::Int(_) | Ty::Pointer(_) => Ok(Target::Scalar(p)),
             Ty::Record(_) => Ok(Target::Record(p)),
             _ => Err(Fault::IllTyped(Rule::Lvalue, from)),
@@ -72,8 +72,8 @@ pub fn target_in(from: u32, thing: Thing) -> Result<Target, Fault>
 pub fn assigned(begin: Start, at: u32, p: Boxed<Path>, x: Value) -> Result<Thing, Fault>
     ensures { Gives thing_of result (assigned_in at begin.place (path_of p) (expression_of x)) }
 {
-    if assigns(&x.get().ty, is_null(x.get()), &p.get().ty) {
-        let t = copy(begin.alloc, &p.get().ty)?;
+    if assigns(&x.get().ty.ty, is_null(x.get()), &p.get().ty.ty) {
+        let t = copy(begin.alloc, &p.get().ty.ty)?;
         let x = convert(begin.alloc, &t, x)?;
         node(begin.alloc, t, begin.place, ExpressionNode::Assign(p, x))
     } else {
@@ -94,7 +94,7 @@ pub fn copied(
 {
     match thing {
         Thing::Object(q) => {
-            if same(&q.get().ty, &p.get().ty) {
+            if same(&q.get().ty.ty, &p.get().ty.ty) {
                 node(
                     begin.alloc,
                     Ty::Void,
@@ -123,9 +123,9 @@ pub fn updated(
 ) -> Result<Thing, Fault>
     ensures { Gives thing_of result (updated_in begin.count at begin.place op (path_of p) (expression_of x)) }
 {
-    match updating(begin.count, op, &p.get().ty, &x.get().ty) {
+    match updating(begin.count, op, &p.get().ty.ty, &x.get().ty.ty) {
         Some(kind) => {
-            let t = copy(begin.alloc, &p.get().ty)?;
+            let t = copy(begin.alloc, &p.get().ty.ty)?;
             let x = convert_to_kind(begin.alloc, kind, x)?;
             node(
                 begin.alloc,
@@ -143,6 +143,6 @@ pub fn updated(
 pub fn comma(begin: Start, x: Value, y: Value) -> Result<Thing, Fault>
     ensures { Gives thing_of result (comma_in begin.place (expression_of x) (expression_of y)) }
 {
-    let t = copy(begin.alloc, &y.get().ty)?;
+    let t = copy(begin.alloc, &y.get().ty.ty)?;
     node(begin.alloc, t, begin.place, ExpressionNode::Comma(x, y))
 }

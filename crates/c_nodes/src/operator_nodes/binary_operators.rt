@@ -39,7 +39,7 @@ pub fn type_in_common(alloc: Global, s: &Ty, t: &Ty, common: CommonType) -> Resu
 fn forward(begin: Start, op: PointerOp, x: Value, y: Value, kind: IntKind) -> Result<Thing, Fault>
     ensures { Gives thing_of result (forward_node begin.place op (expression_of x) (expression_of y) (integer kind)) }
 {
-    let t = copy(begin.alloc, &x.get().ty)?;
+    let t = copy(begin.alloc, &x.get().ty.ty)?;
     let y = convert_to_kind(begin.alloc, kind, y)?;
     node(
         begin.alloc,
@@ -53,7 +53,7 @@ fn forward(begin: Start, op: PointerOp, x: Value, y: Value, kind: IntKind) -> Re
 fn backward(begin: Start, x: Value, y: Value, kind: IntKind) -> Result<Thing, Fault>
     ensures { Gives thing_of result (backward_node begin.place (expression_of x) (expression_of y) (integer kind)) }
 {
-    let t = copy(begin.alloc, &y.get().ty)?;
+    let t = copy(begin.alloc, &y.get().ty.ty)?;
     let x = convert_to_kind(begin.alloc, kind, x)?;
     let node_of_both = ExpressionNode::PointerAdd(PointerOp::Add, x, y);
     node(begin.alloc, t, begin.place, node_of_both)
@@ -63,9 +63,9 @@ fn backward(begin: Start, x: Value, y: Value, kind: IntKind) -> Result<Thing, Fa
 fn added(begin: Start, at: u32, x: Value, y: Value) -> Result<Thing, Fault>
     ensures { Gives thing_of result (added_in begin.count at begin.place (expression_of x) (expression_of y)) }
 {
-    match moving(begin.count, &x.get().ty, &y.get().ty) {
+    match moving(begin.count, &x.get().ty.ty, &y.get().ty.ty) {
         Some(kind) => forward(begin, PointerOp::Add, x, y, kind),
-        None => match moving(begin.count, &y.get().ty, &x.get().ty) {
+        None => match moving(begin.count, &y.get().ty.ty, &x.get().ty.ty) {
             Some(kind) => backward(begin, x, y, kind),
             None => Err(Fault::IllTyped(Rule::Operands, at)),
         },
@@ -76,10 +76,10 @@ fn added(begin: Start, at: u32, x: Value, y: Value) -> Result<Thing, Fault>
 fn subtracted(begin: Start, at: u32, x: Value, y: Value) -> Result<Thing, Fault>
     ensures { Gives thing_of result (subtracted_in begin.count at begin.place (expression_of x) (expression_of y)) }
 {
-    match moving(begin.count, &x.get().ty, &y.get().ty) {
+    match moving(begin.count, &x.get().ty.ty, &y.get().ty.ty) {
         Some(kind) => forward(begin, PointerOp::Subtract, x, y, kind),
         None => {
-            if differing(begin.count, &x.get().ty, &y.get().ty) {
+            if differing(begin.count, &x.get().ty.ty, &y.get().ty.ty) {
                 let node_of_both = ExpressionNode::PointerDiff(x, y);
                 node(
                     begin.alloc,
@@ -99,7 +99,7 @@ fn subtracted(begin: Start, at: u32, x: Value, y: Value) -> Result<Thing, Fault>
 fn computed(begin: Start, at: u32, op: BinaryOp, x: Value, y: Value) -> Result<Thing, Fault>
     ensures { Gives thing_of result (computed_in begin.count at begin.place op (expression_of x) (expression_of y)) }
 {
-    match on_numbers(op, &x.get().ty, &y.get().ty) {
+    match on_numbers(op, &x.get().ty.ty, &y.get().ty.ty) {
         Some(kinds) => {
             let x = convert_to_kind(begin.alloc, kinds.left, x)?;
             let y = convert_to_kind(begin.alloc, kinds.right, y)?;
@@ -121,9 +121,9 @@ fn compared(begin: Start, at: u32, op: CompareOp, x: Value, y: Value) -> Result<
 {
     let x_null = is_null(x.get());
     let y_null = is_null(y.get());
-    match comparing(op, &x.get().ty, x_null, &y.get().ty, y_null) {
+    match comparing(op, &x.get().ty.ty, x_null, &y.get().ty.ty, y_null) {
         Some(common) => {
-            let t = type_in_common(begin.alloc, &x.get().ty, &y.get().ty, common)?;
+            let t = type_in_common(begin.alloc, &x.get().ty.ty, &y.get().ty.ty, common)?;
             let x = convert(begin.alloc, &t, x)?;
             let y = convert(begin.alloc, &t, y)?;
             let node_of_both = ExpressionNode::Compare(op, x, y);
@@ -143,7 +143,7 @@ fn compared(begin: Start, at: u32, op: CompareOp, x: Value, y: Value) -> Result<
 fn and(begin: Start, at: u32, x: Value, y: Value) -> Result<Thing, Fault>
     ensures { Gives thing_of result (tested_in at begin.place (both (expression_of x) (expression_of y)) (expression_of x) (expression_of y)) }
 {
-    if is_scalar(&x.get().ty) && is_scalar(&y.get().ty) {
+    if is_scalar(&x.get().ty.ty) && is_scalar(&y.get().ty.ty) {
         node(
             begin.alloc,
             Ty::Int(IntKind::Int),
@@ -160,7 +160,7 @@ fn and(begin: Start, at: u32, x: Value, y: Value) -> Result<Thing, Fault>
 fn or(begin: Start, at: u32, x: Value, y: Value) -> Result<Thing, Fault>
     ensures { Gives thing_of result (tested_in at begin.place (either (expression_of x) (expression_of y)) (expression_of x) (expression_of y)) }
 {
-    if is_scalar(&x.get().ty) && is_scalar(&y.get().ty) {
+    if is_scalar(&x.get().ty.ty) && is_scalar(&y.get().ty.ty) {
         node(
             begin.alloc,
             Ty::Int(IntKind::Int),

@@ -129,8 +129,8 @@ pub fn signature_of(alloc: Global, at: u32, thing: &Thing) -> Result<Signature, 
     ensures { Gives signature_view result (signature_in at (thing_of thing.now)) }
 {
     match thing {
-        Thing::Object(p) => of_pointed(alloc, at, &p.get().ty),
-        Thing::Value(e) | Thing::FunctionAt(e) => of_pointed(alloc, at, &e.get().ty),
+        Thing::Object(p) => of_pointed(alloc, at, &p.get().ty.ty),
+        Thing::Value(e) | Thing::FunctionAt(e) => of_pointed(alloc, at, &e.get().ty.ty),
         Thing::Function(_, _, t) => of_type(alloc, at, t),
         Thing::LibraryFunction(_, which) => Ok(of_library(alloc, *which)?),
     }
@@ -141,7 +141,7 @@ pub fn signature_of(alloc: Global, at: u32, thing: &Thing) -> Result<Signature, 
 pub fn argument(alloc: Global, at: u32, t: &Ty, x: Value) -> Result<Value, Fault>
     ensures { Gives expression_of result (argument_in at (type_of t.now) (expression_of x)) }
 {
-    if assigns(&x.get().ty, is_null(x.get()), t) {
+    if assigns(&x.get().ty.ty, is_null(x.get()), t) {
         Ok(convert(alloc, t, x)?)
     } else {
         Err(Fault::IllTyped(Rule::Arguments, at))

@@ -9,7 +9,7 @@ ghost use Rattle.c_nodes.specs.Gives.{Gives};
 
 use crate::fault::Fault;
 use crate::making::{Start, Value, misplaced, way};
-use c_annotated::{Path, PathNode, Thing};
+use c_annotated::{Path, PathNode, Thing, plain};
 use c_ast::Spelling;
 use c_types::{Field, Records, Ty, copy};
 use lay_base::{Boxed, Place, Rule, boxed};
@@ -68,7 +68,7 @@ fn member(
     ensures { Gives thing_of result
         (member_of_type (records_of records.now) count x.now.from at (path_of p) (type_of_path (path_of p)) x.now.text) }
 {
-    match &p.get().ty {
+    match &p.get().ty.ty {
         Ty::Record(r) => {
             let r = *r;
             if r < count {
@@ -108,11 +108,18 @@ pub fn arrow(records: &Records, begin: Start, x: &Spelling, e: Value) -> Result<
     ensures { Gives thing_of result (arrow_in (records_of records.now) begin.count x.now.from begin.place (expression_of e) x.now.text) }
 {
     let Start { alloc, place, .. } = begin;
-    match &e.get().ty {
+    match &e.get().ty.ty {
         Ty::Pointer(to) => {
             let ty = copy(alloc, to.get())?;
             let node = PathNode::Deref(e);
-            let p = boxed(alloc, Path { ty, place, node })?;
+            let p = boxed(
+                alloc,
+                Path {
+                    ty: plain(ty),
+                    place,
+                    node,
+                },
+            )?;
             member(alloc, records, begin.count, place, x, p)
         }
         _ => Err(Fault::IllTyped(Rule::Member, x.from)),

@@ -28,7 +28,7 @@ pub struct SwitchValue {
 pub fn initial_value(alloc: Global, at: u32, t: &Ty, x: Value) -> Result<Value, Fault>
     ensures { Gives expression_of result (initial_value_in at (type_of t.now) (expression_of x)) }
 {
-    if assigns(&x.get().ty, is_null(x.get()), t) {
+    if assigns(&x.get().ty.ty, is_null(x.get()), t) {
         Ok(convert(alloc, t, x)?)
     } else {
         Err(Fault::IllTyped(Rule::Assign, at))
@@ -40,7 +40,7 @@ pub fn initial_value(alloc: Global, at: u32, t: &Ty, x: Value) -> Result<Value, 
 pub fn condition(at: u32, x: Value) -> Result<Value, Fault>
     ensures { Gives expression_of result (condition_in at (expression_of x)) }
 {
-    if is_scalar(&x.get().ty) {
+    if is_scalar(&x.get().ty.ty) {
         Ok(x)
     } else {
         Err(Fault::IllTyped(Rule::Condition, at))
@@ -52,7 +52,7 @@ pub fn condition(at: u32, x: Value) -> Result<Value, Fault>
 pub fn switched(alloc: Global, at: u32, x: Value) -> Result<SwitchValue, Fault>
     ensures { Gives switch_view result (switched_in at (expression_of x)) }
 {
-    match &x.get().ty {
+    match &x.get().ty.ty {
         Ty::Int(kind) => {
             let kind = promoted_kind(*kind);
             let value = convert_to_kind(alloc, kind, x)?;
@@ -67,7 +67,7 @@ pub fn switched(alloc: Global, at: u32, x: Value) -> Result<SwitchValue, Fault>
 pub fn returned(alloc: Global, at: u32, t: &Ty, x: Value) -> Result<Value, Fault>
     ensures { Gives expression_of result (returned_in at (type_of t.now) (expression_of x)) }
 {
-    if assigns(&x.get().ty, is_null(x.get()), t) {
+    if assigns(&x.get().ty.ty, is_null(x.get()), t) {
         Ok(convert(alloc, t, x)?)
     } else {
         Err(Fault::IllTyped(Rule::Return, at))

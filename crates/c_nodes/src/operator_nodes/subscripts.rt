@@ -10,7 +10,7 @@ ghost use Rattle.c_nodes.specs.OperatorNodes.Parts.{ArrayGives};
 
 use crate::fault::Fault;
 use crate::making::{Start, Value, convert_to_kind, way};
-use c_annotated::{Expression, ExpressionNode, Path, PathNode, Thing};
+use c_annotated::{Expression, ExpressionNode, Path, PathNode, Thing, plain};
 use c_typed::{PointerOp, is_integer, points_to_object, promoting};
 use c_types::{Ty, copy};
 use lay_base::{Boxed, NoMemory, Rule, boxed};
@@ -30,7 +30,7 @@ pub fn array_of(alloc: Global, thing: Thing) -> Result<Subscripted, NoMemory>
     ensures { ArrayGives (thing_of thing) result }
 {
     match thing {
-        Thing::Object(p) => match &p.get().ty {
+        Thing::Object(p) => match &p.get().ty.ty {
             Ty::Array(element, _) => {
                 let element = copy(alloc, element.get())?;
                 Ok(Subscripted::Array(p, element))
@@ -46,7 +46,7 @@ pub fn array_of(alloc: Global, thing: Thing) -> Result<Subscripted, NoMemory>
 pub fn promote(alloc: Global, x: Value) -> Result<Value, NoMemory>
     ensures { IfOk result (λ e. expression_of e ≡ promoted_value (expression_of x)) }
 {
-    match promoting(&x.get().ty) {
+    match promoting(&x.get().ty.ty) {
         Some(kind) => convert_to_kind(alloc, kind, x),
         None => Ok(x),
     }
@@ -57,7 +57,7 @@ pub fn promote(alloc: Global, x: Value) -> Result<Value, NoMemory>
 pub fn element(begin: Start, left: u32, p: Boxed<Path>, t: Ty, i: Value) -> Result<Thing, Fault>
     ensures { Gives thing_of result (element_in left begin.place (path_of p, type_of t) (expression_of i)) }
 {
-    if is_integer(&i.get().ty) {
+    if is_integer(&i.get().ty.ty) {
         let i = promote(begin.alloc, i)?;
         way(begin.alloc, t, begin.place, PathNode::Element(p, i))
     } else {
@@ -69,7 +69,7 @@ pub fn element(begin: Start, left: u32, p: Boxed<Path>, t: Ty, i: Value) -> Resu
 fn pointer_first(begin: Start, e: Value, i: Value) -> Result<Thing, Fault>
     ensures { Gives thing_of result (index_to begin.place (expression_of e) (expression_of i) (expression_type (expression_of e))) }
 {
-    match &e.get().ty {
+    match &e.get().ty.ty {
         Ty::Pointer(t) => {
             let t = copy(begin.alloc, t.get())?;
             let i = promote(begin.alloc, i)?;
@@ -84,17 +84,16 @@ fn number_first(begin: Start, i: Value, e: Value) -> Result<Thing, Fault>
     ensures { Gives thing_of result (turned_to begin.place (expression_of i) (expression_of e) (expression_type (expression_of e))) }
 {
     let Start { alloc, place, .. } = begin;
-    match &e.get().ty {
+    match &e.get().ty.ty {
         Ty::Pointer(t) => {
             let t = copy(alloc, t.get())?;
-            let ty = copy(alloc, &e.get().ty)?;
+            let ty = copy(alloc, &e.get().ty.ty)?;
             let i = promote(alloc, i)?;
             let node = ExpressionNode::PointerAdd(PointerOp::Add, i, e);
             let sum = boxed(
                 alloc,
                 Expression {
-                    ty,
-                    note: None,
+                    ty: plain(ty),
                     place,
                     node,
                 },
@@ -110,9 +109,9 @@ fn number_first(begin: Start, i: Value, e: Value) -> Result<Thing, Fault>
 pub fn index(begin: Start, left: u32, x: Value, y: Value) -> Result<Thing, Fault>
     ensures { Gives thing_of result (index_in begin.count left begin.place (expression_of x) (expression_of y)) }
 {
-    if points_to_object(begin.count, &x.get().ty) && is_integer(&y.get().ty) {
+    if points_to_object(begin.count, &x.get().ty.ty) && is_integer(&y.get().ty.ty) {
         pointer_first(begin, x, y)
-    } else if is_integer(&x.get().ty) && points_to_object(begin.count, &y.get().ty) {
+    } else if is_integer(&x.get().ty.ty) && points_to_object(begin.count, &y.get().ty.ty) {
         number_first(begin, x, y)
     } else {
         Err(Fault::IllTyped(Rule::Operands, left))

@@ -30,8 +30,8 @@ pub fn step(
 {
     match thing {
         Thing::Object(p) => {
-            if is_stepped(begin.count, &p.get().ty) {
-                let t = copy(begin.alloc, &p.get().ty)?;
+            if is_stepped(begin.count, &p.get().ty.ty) {
+                let t = copy(begin.alloc, &p.get().ty.ty)?;
                 node(
                     begin.alloc,
                     t,
@@ -53,8 +53,8 @@ pub fn address(alloc: Global, from: u32, at: Place, thing: Thing) -> Result<Thin
 {
     match thing {
         Thing::Object(p) => {
-            if may_be_pointed_to(&p.get().ty) {
-                let t = pointer_to(alloc, copy(alloc, &p.get().ty)?)?;
+            if may_be_pointed_to(&p.get().ty.ty) {
+                let t = pointer_to(alloc, copy(alloc, &p.get().ty.ty)?)?;
                 node(alloc, t, at, ExpressionNode::AddressOf(p))
             } else {
                 Err(Fault::TooBig(at.at))
@@ -78,7 +78,7 @@ pub fn address(alloc: Global, from: u32, at: Place, thing: Thing) -> Result<Thin
 pub fn deref(begin: Start, e: Value) -> Result<Thing, Fault>
     ensures { Gives thing_of result (deref_in begin.count begin.place (expression_of e)) }
 {
-    match &e.get().ty {
+    match &e.get().ty.ty {
         Ty::Pointer(to) => {
             if is_function(to.get()) {
                 Ok(Thing::FunctionAt(e))
@@ -98,7 +98,7 @@ pub fn deref(begin: Start, e: Value) -> Result<Thing, Fault>
 pub fn unary(alloc: Global, at: Place, op: UnaryOp, x: Value) -> Result<Thing, Fault>
     ensures { Gives thing_of result (unary_in at op (expression_of x)) }
 {
-    match &x.get().ty {
+    match &x.get().ty.ty {
         Ty::Int(kind) => {
             let t = Ty::Int(promoted_kind(*kind));
             let x = promote(alloc, x)?;
@@ -113,7 +113,7 @@ pub fn unary(alloc: Global, at: Place, op: UnaryOp, x: Value) -> Result<Thing, F
 pub fn not(alloc: Global, at: Place, x: Value) -> Result<Thing, Fault>
     ensures { Gives thing_of result (not_in at (expression_of x)) }
 {
-    if is_scalar(&x.get().ty) {
+    if is_scalar(&x.get().ty.ty) {
         node(alloc, Ty::Int(IntKind::Int), at, ExpressionNode::Not(x))
     } else {
         Err(Fault::IllTyped(Rule::Operands, at.at))
@@ -125,7 +125,7 @@ pub fn not(alloc: Global, at: Place, x: Value) -> Result<Thing, Fault>
 pub fn cast(alloc: Global, at: Place, t: Ty, x: Value) -> Result<Thing, Fault>
     ensures { Gives thing_of result (cast_in at (type_of t) (expression_of x)) }
 {
-    if casts(&x.get().ty, is_null(x.get()), &t) {
+    if casts(&x.get().ty.ty, is_null(x.get()), &t) {
         node(alloc, t, at, ExpressionNode::Convert(x, true))
     } else {
         Err(Fault::IllTyped(Rule::Cast, at.at))

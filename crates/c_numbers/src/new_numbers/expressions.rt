@@ -3,9 +3,8 @@
 ghost use Rattle.std.specs.Prelude.{◌≡◌, map};
 ghost use Rattle.std.specs.Option.{option_map};
 ghost use Rattle.c_numbers.specs.NewNumbers.Numbers.{renaming_of};
-ghost use Rattle.c_numbers.specs.NewNumbers.Nodes.{node_of, path_node_of};
 ghost use Rattle.c_typed.specs.Mapped.{mapped, mapped_all, mapped_node, mapped_path, mapped_step};
-ghost use Rattle.c_typed.specs.Views.{expression_of, expressions_of, path_of};
+ghost use Rattle.c_typed.specs.Views.{expression_of, expressions_of, node_of, path_node_of, path_of};
 
 use crate::new_numbers::numbers::Renumbering;
 use c_typed::{Expression, ExpressionNode, Path, PathNode};
@@ -28,9 +27,9 @@ fn node_in(to: &Renumbering, node: &mut ExpressionNode)
     match node {
         ExpressionNode::Constant(_) | ExpressionNode::Null => {}
         ExpressionNode::FunctionName(f) => *f = to.functions.at(*f),
-        ExpressionNode::Load(p) => path(to, p),
-        ExpressionNode::AddressOf(p) => path(to, p),
-        ExpressionNode::Decay(p) => path(to, p),
+        ExpressionNode::Load(p) => path(to, p.get_mut()),
+        ExpressionNode::AddressOf(p) => path(to, p.get_mut()),
+        ExpressionNode::Decay(p) => path(to, p.get_mut()),
         ExpressionNode::Convert(x, _) => expression(to, x.get_mut()),
         ExpressionNode::Unary(_, x) => expression(to, x.get_mut()),
         ExpressionNode::Not(x) => expression(to, x.get_mut()),
@@ -68,17 +67,17 @@ fn node_in(to: &Renumbering, node: &mut ExpressionNode)
             expression(to, z.get_mut());
         }
         ExpressionNode::Assign(p, x) => {
-            path(to, p);
+            path(to, p.get_mut());
             expression(to, x.get_mut());
         }
         ExpressionNode::AssignOp(_, p, x) => {
-            path(to, p);
+            path(to, p.get_mut());
             expression(to, x.get_mut());
         }
-        ExpressionNode::Step(_, _, p) => path(to, p),
+        ExpressionNode::Step(_, _, p) => path(to, p.get_mut()),
         ExpressionNode::CopyRecord(p, from) => {
-            path(to, p);
-            path(to, from);
+            path(to, p.get_mut());
+            path(to, from.get_mut());
         }
         ExpressionNode::Call(f, all) => {
             *f = to.functions.at(*f);

@@ -16,7 +16,7 @@ fn part_value(to: &Renumbering, value: &mut PartValue)
 {
     match value {
         PartValue::Value(e) => expression(to, e.get_mut()),
-        PartValue::Record(p) => path(to, p),
+        PartValue::Record(p) => path(to, p.get_mut()),
         PartValue::Text(_) => {}
     }
 }
@@ -40,7 +40,7 @@ fn initializer(to: &Renumbering, initial: &mut Initializer)
 {
     match initial {
         Initializer::Value(e) => expression(to, e.get_mut()),
-        Initializer::Record(p) => path(to, p),
+        Initializer::Record(p) => path(to, p.get_mut()),
         Initializer::Parts(all) => parts(to, all),
     }
 }

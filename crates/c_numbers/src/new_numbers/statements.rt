@@ -2,10 +2,10 @@
 
 ghost use Rattle.std.specs.Prelude.{◌≡◌, map};
 ghost use Rattle.std.specs.Option.{option_map};
-ghost use Rattle.c_numbers.specs.NewNumbers.Nodes.{arm_of, mapped_arm};
+ghost use Rattle.c_numbers.specs.NewNumbers.Nodes.{mapped_arm};
 ghost use Rattle.c_numbers.specs.NewNumbers.Numbers.{renaming_of};
 ghost use Rattle.c_typed.specs.Mapped.{mapped_arms, mapped_statement, mapped_statements};
-ghost use Rattle.c_typed.specs.Views.{arms_of, statement_of, statements_of};
+ghost use Rattle.c_typed.specs.Views.{arm_of, arms_of, statement_of, statements_of};
 
 use crate::new_numbers::expressions::{expression, optional_expression};
 use crate::new_numbers::initializers::optional_initializer;

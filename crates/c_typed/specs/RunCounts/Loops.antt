@@ -1,10 +1,9 @@
 -- The loops of a function, numbered in the order of the text.
 use Rattle.std.specs.Prelude.{ℕ, ◌+◌, Option, Some, None, slice_get}
-use Rattle.c_typed.specs.declared.statement.Arm.{Arm, fold-Arm}
 use Rattle.c_typed.specs.Programs.{FunctionData, ProgramData}
 use Rattle.c_typed.specs.Trees as T
 use Rattle.c_typed.specs.Trees.{Statement, Statements, Arms}
-use Rattle.c_typed.specs.Views.{AStatement, OneArm, arm_layer, statement_layer}
+use Rattle.c_typed.specs.Views.{AStatement}
 
 abbrev mutual
   pub loops_in : {X : Type 0} → Statement X → ℕ
@@ -44,7 +43,3 @@ loops_of_any (Some f) = loops_of f
 
 abbrev pub loops_at : ProgramData → ℕ → ℕ
 loops_at p number = loops_of_any (slice_get p.functions number)
-
--- what an arm of the program stands for
-abbrev pub arm_of : Arm → OneArm
-arm_of = fold-Arm AStatement OneArm statement_layer arm_layer

@@ -1,9 +1,9 @@
 //! How many loops a function has.
 
 ghost use Rattle.std.specs.Prelude.{◌≡◌, ◌-◌, ◌<◌, ◌^◌, map, min};
-ghost use Rattle.c_typed.specs.RunCounts.Loops.{arm_of, loops_in, loops_in_all, loops_in_arms, loops_of};
+ghost use Rattle.c_typed.specs.RunCounts.Loops.{loops_in, loops_in_all, loops_in_arms, loops_of};
 ghost use Rattle.c_typed.specs.Programs.{data_of};
-ghost use Rattle.c_typed.specs.Views.{arms_of, statement_of, statements_of};
+ghost use Rattle.c_typed.specs.Views.{arm_of, arms_of, statement_of, statements_of};
 
 use crate::program::Function;
 use crate::statement::{Arm, Statement};

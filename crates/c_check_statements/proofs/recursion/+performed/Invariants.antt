@@ -2,7 +2,7 @@ use Rattle.std.proofs.Common.{◌≡◌, map, drop}
 use Rattle.c_types.specs.Views.{type_of}
 use Rattle.c_ast.specs.Views.{block_item_of, block_items_of, switch_item_of, switch_items_of}
 use Rattle.c_erasure.specs.BrokenStatements.{no_labels}
-use Rattle.c_annotated.specs.Nodes.{arm_of}
+use Rattle.c_annotated.specs.Views.{arm_of}
 use Rattle.c_erasure.specs.Checking.Statements.{items_in, switch_items}
 use Rattle.c_check_parts.specs.BlockLocals.Performing.{body_of, standing, statements_after}
 use Rattle.c_check_statements.specs.StatementParts.Arms.{arms_after, last_arm_of}

@@ -1,7 +1,6 @@
 use Rattle.std.proofs.Common.{◌≡◌, ◌++◌, drop, None}
 use Rattle.std.specs.Prelude.{map}
-use Rattle.c_typed.specs.RunCounts.Loops.{arm_of}
-use Rattle.c_typed.specs.Views.{arms_of, statement_of, statements_of}
+use Rattle.c_typed.specs.Views.{arm_of, arms_of, statement_of, statements_of}
 use Rattle.c_facts.specs.Facts.{facts_by_arms, facts_by_statements}
 use Rattle.c_facts.proofs.statements.+statement_fact_walk.Given as goal
 

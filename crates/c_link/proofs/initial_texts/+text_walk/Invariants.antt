@@ -1,7 +1,6 @@
 use Rattle.std.proofs.Common.{◌≡◌, ◌+◌, drop}
 use Rattle.std.specs.Prelude.{map}
-use Rattle.c_numbers.specs.NewNumbers.Nodes.{arm_of}
-use Rattle.c_typed.specs.Views.{arms_of, statement_of, statements_of}
+use Rattle.c_typed.specs.Views.{arm_of, arms_of, statement_of, statements_of}
 use Rattle.c_link.specs.Texts.{rounded, texts_in_all, texts_in_arms}
 use Rattle.c_link.proofs.initial_texts.+text_walk.Given as goal
 

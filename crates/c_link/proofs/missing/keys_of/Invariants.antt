@@ -1,5 +1,5 @@
 use Rattle.std.proofs.Common.{◌≡◌, [], drop, fold, map}
-use Rattle.c_link.specs.TreeUses.Uses.{reference_of}
+use Rattle.c_walks.specs.NodeTypes.{reference_of}
 use Rattle.c_numbers.specs.KeyNumbers.Keys.{with_key}
 use Rattle.c_link.specs.Missing.{key_of}
 use Rattle.c_link.proofs.missing.keys_of.Given as goal

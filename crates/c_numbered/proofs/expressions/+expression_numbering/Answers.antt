@@ -1,7 +1,7 @@
 use Rattle.std.proofs.Common.{◌≡◌, ◌∙◌, ap, sym}
 use Rattle.std.specs.Prelude.{Some}
-use Rattle.c_annotated.specs.Nodes.{node_of as noted_node}
-use Rattle.c_annotated.specs.declared.expression.ExpressionNode.TheVariants as E
+use Rattle.c_annotated.specs.Views.{node_of as noted_node}
+use Rattle.c_typed.specs.declared.expression.ExpressionNode.TheVariants as E
 use Rattle.c_typed.specs.Mapped.{mapped_node}
 use Rattle.c_numbered.proofs.Lists.{all_mapped}
 use Rattle.c_numbered.proofs.Optional.{allocated}

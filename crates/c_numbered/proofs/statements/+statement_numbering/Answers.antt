@@ -1,6 +1,6 @@
 use Rattle.std.proofs.Common.{◌∙◌, ap, sym}
 use Rattle.c_annotated.specs.Views.{statement_of as noted_statement}
-use Rattle.c_annotated.specs.declared.statement.Statement.TheVariants as S
+use Rattle.c_typed.specs.declared.statement.Statement.TheVariants as S
 use Rattle.c_typed.specs.Mapped.{mapped_statement}
 use Rattle.c_numbered.proofs.Lists.{all_arms_mapped, all_statements_mapped}
 use Rattle.c_numbered.proofs.Optional.{either_mapped}

@@ -1,9 +1,8 @@
 use Rattle.std.proofs.Common.{◌≡◌, ◌++◌, drop, map}
-use Rattle.c_annotated.specs.Nodes.{arm_of as noted_arm}
+use Rattle.c_annotated.specs.Views.{arm_of as noted_arm}
 use Rattle.c_annotated.specs.Views.{statement_of as noted_statement}
-use Rattle.c_numbers.specs.NewNumbers.Nodes.{arm_of}
 use Rattle.c_typed.specs.Mapped.{mapped_statement}
-use Rattle.c_typed.specs.Views.{statement_of}
+use Rattle.c_typed.specs.Views.{arm_of, statement_of}
 use Rattle.c_numbered.specs.Numbered.{numbered, numbered_arm}
 use Rattle.c_numbered.proofs.statements.+statement_numbering.Given as goal
 

@@ -1,9 +1,9 @@
 use Rattle.std.proofs.Common.{◌≡◌, sym, rules}
 use Rattle.std.specs.Prelude.{Some}
 use Rattle.std.proofs.lemmas.Result.{on_ok_weaker}
-use Rattle.c_annotated.specs.Nodes.{arm_of}
+use Rattle.c_annotated.specs.Views.{arm_of}
 use Rattle.c_annotated.specs.Views.{expression_of, statement_of}
-use Rattle.c_annotated.specs.declared.statement.Statement.TheVariants as S
+use Rattle.c_typed.specs.declared.statement.Statement.TheVariants as S
 use Rattle.c_erasure.specs.Recognised.{recognised}
 use Rattle.c_erasure.specs.Units.{recognised_statement}
 use Rattle.c_recognised.specs.Arms.{recognised_arm}

@@ -2,7 +2,7 @@ use Rattle.std.proofs.Common.{◌≡◌, ◌++◌, drop, map, take}
 use Rattle.c_annotated.specs.Views.{arms_of, statement_of, statements_of}
 use Rattle.c_erasure.specs.SizeOperands.{operands_in_arms, operands_in_statements}
 use Rattle.c_erasure.specs.Units.{recognised_statement}
-use Rattle.c_annotated.specs.Nodes.{arm_of}
+use Rattle.c_annotated.specs.Views.{arm_of}
 use Rattle.c_recognised.specs.Arms.{recognised_arm}
 use Rattle.c_recognised.proofs.statements.+statement_recognition.Given as goal
 

@@ -1,6 +1,5 @@
 use Rattle.std.proofs.Common.{◌≡◌, map, drop}
-use Rattle.c_typed.specs.RunCounts.Loops.{arm_of}
-use Rattle.c_typed.specs.Views.{arms_of}
+use Rattle.c_typed.specs.Views.{arm_of, arms_of}
 use Rattle.lower_tac.specs.Statements.{default_start}
 use Rattle.lower_tac.proofs.dispatch.default_start.Given as goal
 

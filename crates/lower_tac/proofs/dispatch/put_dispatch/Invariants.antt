@@ -1,6 +1,5 @@
 use Rattle.std.proofs.Common.{◌≤◌, length, map, drop}
-use Rattle.c_typed.specs.RunCounts.Loops.{arm_of}
-use Rattle.c_typed.specs.Views.{arms_of}
+use Rattle.c_typed.specs.Views.{arm_of, arms_of}
 use Rattle.lower_tac.specs.Statements.{dispatch_code}
 use Rattle.lower_tac.specs.Writing.{Wrote}
 use Rattle.lower_tac.proofs.dispatch.put_dispatch.Given as goal

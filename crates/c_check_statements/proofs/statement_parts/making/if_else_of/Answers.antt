@@ -1,8 +1,8 @@
 use Rattle.std.proofs.Common.{◌≡◌, rules, subst}
 use Rattle.std.specs.Prelude.{Ok, Some}
 use Rattle.c_typed.specs.Trees as Typed
-use Rattle.c_annotated.specs.declared.statement.Statement.{the_lemmas}
-use Rattle.c_annotated.specs.declared.statement.Statement.TheVariants as S
+use Rattle.c_typed.specs.declared.statement.Statement.{the_lemmas}
+use Rattle.c_typed.specs.declared.statement.Statement.TheVariants as S
 use Rattle.c_annotated.specs.Views.{AStatement, expression_of, statement_of}
 use Rattle.c_nodes.specs.Gives.{Gives}
 use Rattle.c_check_statements.proofs.statement_parts.making.if_else_of.Goals as goal

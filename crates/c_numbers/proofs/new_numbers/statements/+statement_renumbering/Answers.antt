@@ -1,9 +1,9 @@
 use Rattle.std.proofs.Common.{rules}
-use Rattle.c_numbers.specs.NewNumbers.Nodes.{arm_of, mapped_arm}
+use Rattle.c_numbers.specs.NewNumbers.Nodes.{mapped_arm}
 use Rattle.c_numbers.specs.NewNumbers.Numbers.{renaming_of}
 use Rattle.c_numbers.proofs.NewNumbers.Lists.{all_arms_mapped, all_statements_mapped, ended}
 use Rattle.c_typed.specs.Mapped.{mapped_statement}
-use Rattle.c_typed.specs.Views.{statement_of}
+use Rattle.c_typed.specs.Views.{arm_of, statement_of}
 use Rattle.c_numbers.proofs.new_numbers.statements.+statement_renumbering.Goals as goal
 
 pub statements-returns : goal.statements-returns

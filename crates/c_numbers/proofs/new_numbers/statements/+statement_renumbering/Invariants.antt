@@ -1,7 +1,7 @@
 use Rattle.std.proofs.Common.{◌≡◌, map, take}
 use Rattle.c_typed.specs.Mapped.{mapped_statement}
-use Rattle.c_typed.specs.Views.{statement_of}
-use Rattle.c_numbers.specs.NewNumbers.Nodes.{arm_of, mapped_arm}
+use Rattle.c_numbers.specs.NewNumbers.Nodes.{mapped_arm}
+use Rattle.c_typed.specs.Views.{arm_of, statement_of}
 use Rattle.c_numbers.specs.NewNumbers.Numbers.{renaming_of}
 use Rattle.c_numbers.proofs.new_numbers.statements.+statement_renumbering.Given as goal
 

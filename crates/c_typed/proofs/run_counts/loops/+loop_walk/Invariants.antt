@@ -1,7 +1,7 @@
 use Rattle.std.proofs.Common.{◌≡◌, ◌+◌, ◌-◌, ◌^◌, ◌<◌, drop, min}
 use Rattle.std.specs.Prelude.{map}
-use Rattle.c_typed.specs.RunCounts.Loops.{arm_of, loops_in_all, loops_in_arms}
-use Rattle.c_typed.specs.Views.{arms_of, statement_of, statements_of}
+use Rattle.c_typed.specs.RunCounts.Loops.{loops_in_all, loops_in_arms}
+use Rattle.c_typed.specs.Views.{arm_of, arms_of, statement_of, statements_of}
 use Rattle.c_typed.proofs.run_counts.loops.+loop_walk.Given as goal
 
 abbrev pub invariant-loops_in_statements-loop-s : goal.invariant-loops_in_statements-loop-s

@@ -1,4 +1,4 @@
-use Rattle.std.proofs.Common.{◌≡◌, ◌+◌, ◌-◌, ◌^◌, ◌<◌, [], ◌∷◌, ◌++◌, arith, length, rules, suc, sym, ap, ◌∙◌}
+use Rattle.std.proofs.Common.{◌≡◌, ℕ, ◌+◌, ◌-◌, ◌^◌, ◌<◌, [], ◌∷◌, ◌++◌, arith, length, rules, suc, sym, ap, ◌∙◌}
 use Rattle.std.specs.Prelude.{reverse}
 use Rattle.std.proofs.lemmas.Iterator.Adapters.{YieldsList-from_rev_slice}
 use Rattle.std.proofs.lemmas.Iterator.Consumers.{YieldsList-end, YieldsList-turn}
@@ -58,13 +58,13 @@ member-returns-in-None t c = λ h.
 
 pub value-returns-in-AddressOf : goal.value-returns-in-AddressOf
 value-returns-in-AddressOf t c = λ h. let r = c.address.ensures h in
-    let s : (expression_of c.args.e.now) ≡ T.expression c.args.e.now.ty c.args.e.now.place (T.address_of (path_of c.in-AddressOf.q)) = search (rules, the_lemmas) in
-    (r.0, r.1 ∙ sym (address_of_is (program_in c.args.self.now) (locals_in c.args.self.now) (expression_of c.args.e.now) c.args.e.now.ty c.args.e.now.place (path_of c.in-AddressOf.q) c.args.to c.args.d (code_in c.args.w.now) s))
+    let s : (expression_of c.args.e.now) ≡ T.expression c.args.e.now.ty c.args.e.now.place (T.address_of (path_of c.get-in-AddressOf.result.now)) = search (rules, the_lemmas) in
+    (r.0, r.1 ∙ sym (address_of_is (program_in c.args.self.now) (locals_in c.args.self.now) (expression_of c.args.e.now) c.args.e.now.ty c.args.e.now.place (path_of c.get-in-AddressOf.result.now) c.args.to c.args.d (code_in c.args.w.now) s))
 
 pub value-returns-in-Decay : goal.value-returns-in-Decay
 value-returns-in-Decay t c = λ h. let r = c.address-in-Decay.ensures h in
-    let s : (expression_of c.args.e.now) ≡ T.expression c.args.e.now.ty c.args.e.now.place (T.decay (path_of c.in-Decay.q)) = search (rules, the_lemmas) in
-    (r.0, r.1 ∙ sym (decay_is (program_in c.args.self.now) (locals_in c.args.self.now) (expression_of c.args.e.now) c.args.e.now.ty c.args.e.now.place (path_of c.in-Decay.q) c.args.to c.args.d (code_in c.args.w.now) s))
+    let s : (expression_of c.args.e.now) ≡ T.expression c.args.e.now.ty c.args.e.now.place (T.decay (path_of c.get-in-Decay.result.now)) = search (rules, the_lemmas) in
+    (r.0, r.1 ∙ sym (decay_is (program_in c.args.self.now) (locals_in c.args.self.now) (expression_of c.args.e.now) c.args.e.now.ty c.args.e.now.place (path_of c.get-in-Decay.result.now) c.args.to c.args.d (code_in c.args.w.now) s))
 
 pub value-returns-in-Cond : goal.value-returns-in-Cond
 value-returns-in-Cond t c = λ h.
@@ -89,7 +89,7 @@ value-returns-else-is_void t c = λ h.
       step.0,
       converted (program_in c.args.self.now) (locals_in c.args.self.now) (expression_of c.args.e.now) c.args.e.now.ty c.args.e.now.place (expression_of c.in-Convert.x) c.in-Convert.field-1 c.args.to c.args.d
           c.operand.result (code_in c.args.w.now) (code_in c.put_conversion.new.w) (code_in c.part.new.w) s (sym c.is_void.ensures ∙ c.if-is_void.false)
-          (search rules) (step.1 ∙ ap (λ (x : Expression). convert_step (type_at (program_in c.args.self.now) c.args.e.now.ty) (at_of (expression_of x)) c.args.to c.operand.result (code_in c.args.w.now)) same)
+          (search rules) (step.1 ∙ ap (λ (x : Expression ℕ). convert_step (type_at (program_in c.args.self.now) c.args.e.now.ty) (at_of (expression_of x)) c.args.to c.operand.result (code_in c.args.w.now)) same)
           (search rules),
     )
 

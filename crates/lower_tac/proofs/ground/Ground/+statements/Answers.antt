@@ -1,9 +1,8 @@
-use Rattle.std.proofs.Common.{◌≡◌, ◌++◌, List, length, map, ap, ◌∙◌, arith, Bor}
+use Rattle.std.proofs.Common.{◌≡◌, ◌++◌, ℕ, List, length, map, ap, ◌∙◌, arith, Bor}
 use Rattle.std.specs.Prelude.{reverse}
 use Rattle.std.proofs.lemmas.Iterator.Adapters.{YieldsList-from_rev_slice}
 use Rattle.std.proofs.lemmas.Iterator.Consumers.{YieldsList-end, YieldsList-so_far, YieldsList-turn}
-use Rattle.c_typed.specs.RunCounts.Loops.{arm_of}
-use Rattle.c_typed.specs.Views.{arms_of, statement_of, statements_of}
+use Rattle.c_typed.specs.Views.{arm_of, arms_of, statement_of, statements_of}
 use Rattle.c_typed.specs.declared.statement.Arm.{Arm}
 use Rattle.c_typed.specs.declared.statement.Statement.{Statement}
 use Rattle.lower_tac.specs.Drafts.{out_in}
@@ -16,20 +15,20 @@ use Rattle.lower_tac.proofs.ground.Ground.+statements.Goals as goal
 
 pub statements-returns-clause-is : goal.statements-returns-clause-is
 statements-returns-clause-is t c = λ h.
-    let back : reverse (map (λ (s : Bor Statement). s.now) c.loop-s.yielded) ≡ c.args.all.now = back_is c.loop-s.yielded c.args.all.now (YieldsList-end (YieldsList-from_rev_slice c.args.all.now cc) c.loop-s.yielded _ c.loop-s.yielded_by _ _ c.in-None.is c.next.ensures.steps).0 in
+    let back : reverse (map (λ (s : Bor (Statement ℕ)). s.now) c.loop-s.yielded) ≡ c.args.all.now = back_is c.loop-s.yielded c.args.all.now (YieldsList-end (YieldsList-from_rev_slice c.args.all.now cc) c.loop-s.yielded _ c.loop-s.yielded_by _ _ c.in-None.is c.next.ensures.steps).0 in
     let made = c.loop-s.invariant.0 h in (
       made.0,
-      made.1 ∙ ap (λ (all : List Statement). statements_code (program_in c.args.self.now) c.args.self.now.number (locals_in c.args.self.now) (statements_of (map statement_of all))
+      made.1 ∙ ap (λ (all : List (Statement ℕ)). statements_code (program_in c.args.self.now) c.args.self.now.number (locals_in c.args.self.now) (statements_of (map statement_of all))
           c.args.x (out_in c.args.draft.now)) back,
     )
 
 pub arms-returns-clause-is : goal.arms-returns-clause-is
 arms-returns-clause-is t c = λ h.
-    let back : reverse (map (λ (s : Bor Arm). s.now) c.loop-arm.yielded) ≡ c.args.all.now = back_is c.loop-arm.yielded c.args.all.now (YieldsList-end (YieldsList-from_rev_slice c.args.all.now cc) c.loop-arm.yielded _ c.loop-arm.yielded_by _ _ c.in-None.is c.next.ensures.steps).0 in
+    let back : reverse (map (λ (s : Bor (Arm ℕ)). s.now) c.loop-arm.yielded) ≡ c.args.all.now = back_is c.loop-arm.yielded c.args.all.now (YieldsList-end (YieldsList-from_rev_slice c.args.all.now cc) c.loop-arm.yielded _ c.loop-arm.yielded_by _ _ c.in-None.is c.next.ensures.steps).0 in
     let made = c.loop-arm.invariant.0 h in
-    let whole : arms_code (program_in c.args.self.now) c.args.self.now.number (locals_in c.args.self.now) (arms_of (map arm_of (reverse (map (λ (s : Bor Arm). s.now) c.loop-arm.yielded)))) c.args.x (out_in c.args.draft.now)
+    let whole : arms_code (program_in c.args.self.now) c.args.self.now.number (locals_in c.args.self.now) (arms_of (map arm_of (reverse (map (λ (s : Bor (Arm ℕ)). s.now) c.loop-arm.yielded)))) c.args.x (out_in c.args.draft.now)
     ≡ arms_code (program_in c.args.self.now) c.args.self.now.number (locals_in c.args.self.now) (arms_of (map arm_of c.args.all.now)) c.args.x (out_in c.args.draft.now)
-    = ap (λ (all : List Arm). arms_code (program_in c.args.self.now) c.args.self.now.number (locals_in c.args.self.now) (arms_of (map arm_of all)) c.args.x (out_in c.args.draft.now)) back in
+    = ap (λ (all : List (Arm ℕ)). arms_code (program_in c.args.self.now) c.args.self.now.number (locals_in c.args.self.now) (arms_of (map arm_of all)) c.args.x (out_in c.args.draft.now)) back in
     (made.0, made.1 ∙ ap (λ (o : ArmsOut). o.starts ++ reverse c.args.starts.now.items) whole, made.2 ∙ ap (λ (o : ArmsOut). o.out) whole)
 
 pub arms-loop-arm-preserved : goal.arms-loop-arm-preserved
@@ -47,12 +46,12 @@ arms-loop-arm-preserved t c =
 
 pub statements-returns-clause-loops : goal.statements-returns-clause-loops
 statements-returns-clause-loops t c =
-    let back : reverse (map (λ (s : Bor Statement). s.now) c.loop-s.yielded) ≡ c.args.all.now = back_is c.loop-s.yielded c.args.all.now (YieldsList-end (YieldsList-from_rev_slice c.args.all.now cc) c.loop-s.yielded _ c.loop-s.yielded_by _ _ c.in-None.is c.next.ensures.steps).0 in
+    let back : reverse (map (λ (s : Bor (Statement ℕ)). s.now) c.loop-s.yielded) ≡ c.args.all.now = back_is c.loop-s.yielded c.args.all.now (YieldsList-end (YieldsList-from_rev_slice c.args.all.now cc) c.loop-s.yielded _ c.loop-s.yielded_by _ _ c.in-None.is c.next.ensures.steps).0 in
     let same = ap asked_by_made back in omega (arith, c.loop-s.invariant.1, same)
 
 pub arms-returns-clause-loops : goal.arms-returns-clause-loops
 arms-returns-clause-loops t c =
-    let back : reverse (map (λ (s : Bor Arm). s.now) c.loop-arm.yielded) ≡ c.args.all.now = back_is c.loop-arm.yielded c.args.all.now (YieldsList-end (YieldsList-from_rev_slice c.args.all.now cc) c.loop-arm.yielded _ c.loop-arm.yielded_by _ _ c.in-None.is c.next.ensures.steps).0 in
+    let back : reverse (map (λ (s : Bor (Arm ℕ)). s.now) c.loop-arm.yielded) ≡ c.args.all.now = back_is c.loop-arm.yielded c.args.all.now (YieldsList-end (YieldsList-from_rev_slice c.args.all.now cc) c.loop-arm.yielded _ c.loop-arm.yielded_by _ _ c.in-None.is c.next.ensures.steps).0 in
     let same = ap asked_by_made_arms back in omega (arith, c.loop-arm.invariant.1, same)
 
 pub statements-has_numbers-requires-clause-few : goal.statements-has_numbers-requires-clause-few
@@ -60,7 +59,7 @@ statements-has_numbers-requires-clause-few t c =
     let l = c.loop-s in
     let yields = YieldsList-from_rev_slice c.args.all.now cc in
     let turn = YieldsList-turn yields l.yielded _ l.yielded_by _ _ _ c.in-Some.is c.next.ensures.steps in
-    let asks = statement_asks c.args.all.now (map (λ (s : Bor Statement). s.now) l.yielded) (length l.yielded) c.in-Some.s.now
+    let asks = statement_asks c.args.all.now (map (λ (s : Bor (Statement ℕ)). s.now) l.yielded) (length l.yielded) c.in-Some.s.now
     (YieldsList-so_far yields l.yielded _ l.yielded_by) turn.0 turn.1 in
     omega (arith, asks, c.requires.few)
 
@@ -69,7 +68,7 @@ statements-has_numbers-requires-clause-loops t c =
     let l = c.loop-s in
     let yields = YieldsList-from_rev_slice c.args.all.now cc in
     let turn = YieldsList-turn yields l.yielded _ l.yielded_by _ _ _ c.in-Some.is c.next.ensures.steps in
-    let asks = statement_asks c.args.all.now (map (λ (s : Bor Statement). s.now) l.yielded) (length l.yielded) c.in-Some.s.now
+    let asks = statement_asks c.args.all.now (map (λ (s : Bor (Statement ℕ)). s.now) l.yielded) (length l.yielded) c.in-Some.s.now
     (YieldsList-so_far yields l.yielded _ l.yielded_by) turn.0 turn.1 in
     omega (arith, asks, l.invariant.1, c.requires.loops)
 
@@ -78,7 +77,7 @@ arms-has_numbers_for_all-requires-clause-few t c =
     let l = c.loop-arm in
     let yields = YieldsList-from_rev_slice c.args.all.now cc in
     let turn = YieldsList-turn yields l.yielded _ l.yielded_by _ _ _ c.in-Some.is c.next.ensures.steps in
-    let asks = arm_asks c.args.all.now (map (λ (s : Bor Arm). s.now) l.yielded) (length l.yielded) c.in-Some.arm.now
+    let asks = arm_asks c.args.all.now (map (λ (s : Bor (Arm ℕ)). s.now) l.yielded) (length l.yielded) c.in-Some.arm.now
     (YieldsList-so_far yields l.yielded _ l.yielded_by) turn.0 turn.1 in
     omega (arith, asks, c.requires.few)
 
@@ -87,6 +86,6 @@ arms-has_numbers_for_all-requires-clause-loops t c =
     let l = c.loop-arm in
     let yields = YieldsList-from_rev_slice c.args.all.now cc in
     let turn = YieldsList-turn yields l.yielded _ l.yielded_by _ _ _ c.in-Some.is c.next.ensures.steps in
-    let asks = arm_asks c.args.all.now (map (λ (s : Bor Arm). s.now) l.yielded) (length l.yielded) c.in-Some.arm.now
+    let asks = arm_asks c.args.all.now (map (λ (s : Bor (Arm ℕ)). s.now) l.yielded) (length l.yielded) c.in-Some.arm.now
     (YieldsList-so_far yields l.yielded _ l.yielded_by) turn.0 turn.1 in
     omega (arith, asks, l.invariant.1, c.requires.loops)

@@ -1,7 +1,6 @@
 use Rattle.std.proofs.Common.{◌+◌, ◌≤◌, map}
 use Rattle.std.specs.Prelude.{reverse}
-use Rattle.c_typed.specs.RunCounts.Loops.{arm_of}
-use Rattle.c_typed.specs.Views.{arms_of, statement_of, statements_of}
+use Rattle.c_typed.specs.Views.{arm_of, arms_of, statement_of, statements_of}
 use Rattle.lower_tac.specs.Drafts.{ArmsDrafted, Drafted}
 use Rattle.lower_tac.specs.Grounds.{locals_in, program_in}
 use Rattle.lower_tac.specs.Statements.{arms_code, statements_code}
