@@ -1,27 +1,31 @@
 //! Expressions and paths with numbers of types.
 
 ghost use Rattle.std.specs.Prelude.{◌≡◌, IfOk, map};
-ghost use Rattle.c_annotated.specs.Views.{node_of as noted_node, path_node_of as noted_path_node};
-ghost use Rattle.c_annotated.specs.Views.{expression_of as noted_expression, expressions_of as noted_expressions, path_of as noted_path};
+ghost use Rattle.c_annotated.specs.Views.{expression_of as noted_expression, expressions_of as noted_expressions, node_of as noted_node};
+ghost use Rattle.c_annotated.specs.Views.{path_node_of as noted_path_node, path_of as noted_path};
 ghost use Rattle.c_numbered.specs.Numbered.{numbered};
 ghost use Rattle.c_typed.specs.Mapped.{mapped, mapped_all, mapped_node, mapped_path, mapped_step};
 ghost use Rattle.c_typed.specs.Views.{expression_of, expressions_of, node_of, path_node_of, path_of};
 
+use c_annotated::Noted;
 use c_numbers::TypeTable;
 use c_typed::{Expression, ExpressionNode, Path, PathNode};
 use lay_base::{Boxed, List, NoMemory, add, boxed, with_room};
 use std::alloc::Global;
 
+/// Where trees are made, and the table of the numbers of their types.
+#[derive(Clone, Copy)]
+pub struct Numbering<'a> {
+    pub alloc: Global,
+    pub types: &'a TypeTable,
+}
+
 #[cycle(expression_numbering)]
-pub fn expression(
-    alloc: Global,
-    types: &TypeTable,
-    e: &c_annotated::Expression,
-) -> Result<Expression, NoMemory>
-    ensures { IfOk result (λ r. expression_of r ≡ mapped (numbered types.now) (noted_expression e.now)) }
+fn expression(by: Numbering, e: &Expression<Noted>) -> Result<Expression, NoMemory>
+    ensures { IfOk result (λ r. expression_of r ≡ mapped (numbered by.entry.types.now) (noted_expression e.now)) }
 {
-    let ty = types.number(alloc, &e.ty.ty)?;
-    let node = node_in(alloc, types, &e.node)?;
+    let ty = by.types.number(by.alloc, &e.ty.ty)?;
+    let node = node(by, &e.node)?;
     Ok(Expression {
         ty,
         place: e.place,
@@ -30,201 +34,125 @@ pub fn expression(
 }
 
 #[cycle(expression_numbering)]
-fn node_in(
-    alloc: Global,
-    types: &TypeTable,
-    node: &c_annotated::ExpressionNode,
-) -> Result<ExpressionNode, NoMemory>
-    ensures { IfOk result (λ r. node_of r ≡ mapped_node (numbered types.now) (noted_node node.now)) }
+fn node(by: Numbering, node: &ExpressionNode<Noted>) -> Result<ExpressionNode, NoMemory>
+    ensures { IfOk result (λ r. node_of r ≡ mapped_node (numbered by.entry.types.now) (noted_node node.now)) }
 {
     match node {
-        c_annotated::ExpressionNode::Constant(v) => Ok(ExpressionNode::Constant(*v)),
-        c_annotated::ExpressionNode::Null => Ok(ExpressionNode::Null),
-        c_annotated::ExpressionNode::FunctionName(f) => Ok(ExpressionNode::FunctionName(*f)),
-        c_annotated::ExpressionNode::Load(p) => {
-            let p = path(alloc, types, p)?;
-            Ok(ExpressionNode::Load(p))
-        }
-        c_annotated::ExpressionNode::AddressOf(p) => {
-            let p = path(alloc, types, p)?;
-            Ok(ExpressionNode::AddressOf(p))
-        }
-        c_annotated::ExpressionNode::Decay(p) => {
-            let p = path(alloc, types, p)?;
-            Ok(ExpressionNode::Decay(p))
-        }
-        c_annotated::ExpressionNode::Convert(x, written) => {
-            let x = operand(alloc, types, x)?;
-            Ok(ExpressionNode::Convert(x, *written))
-        }
-        c_annotated::ExpressionNode::Unary(op, x) => {
-            let x = operand(alloc, types, x)?;
-            Ok(ExpressionNode::Unary(*op, x))
-        }
-        c_annotated::ExpressionNode::Binary(op, x, y) => {
-            let x = operand(alloc, types, x)?;
-            let y = operand(alloc, types, y)?;
-            Ok(ExpressionNode::Binary(*op, x, y))
-        }
-        c_annotated::ExpressionNode::Compare(op, x, y) => {
-            let x = operand(alloc, types, x)?;
-            let y = operand(alloc, types, y)?;
-            Ok(ExpressionNode::Compare(*op, x, y))
-        }
-        c_annotated::ExpressionNode::PointerAdd(op, x, y) => {
-            let x = operand(alloc, types, x)?;
-            let y = operand(alloc, types, y)?;
-            Ok(ExpressionNode::PointerAdd(*op, x, y))
-        }
-        c_annotated::ExpressionNode::PointerDiff(x, y) => {
-            let x = operand(alloc, types, x)?;
-            let y = operand(alloc, types, y)?;
-            Ok(ExpressionNode::PointerDiff(x, y))
-        }
-        c_annotated::ExpressionNode::And(x, y) => {
-            let x = operand(alloc, types, x)?;
-            let y = operand(alloc, types, y)?;
-            Ok(ExpressionNode::And(x, y))
-        }
-        c_annotated::ExpressionNode::Or(x, y) => {
-            let x = operand(alloc, types, x)?;
-            let y = operand(alloc, types, y)?;
-            Ok(ExpressionNode::Or(x, y))
-        }
-        c_annotated::ExpressionNode::Not(x) => {
-            let x = operand(alloc, types, x)?;
-            Ok(ExpressionNode::Not(x))
-        }
-        c_annotated::ExpressionNode::Cond(x, y, z) => {
-            let x = operand(alloc, types, x)?;
-            let y = operand(alloc, types, y)?;
-            let z = operand(alloc, types, z)?;
-            Ok(ExpressionNode::Cond(x, y, z))
-        }
-        c_annotated::ExpressionNode::Comma(x, y) => {
-            let x = operand(alloc, types, x)?;
-            let y = operand(alloc, types, y)?;
-            Ok(ExpressionNode::Comma(x, y))
-        }
-        c_annotated::ExpressionNode::Assign(p, x) => {
-            let p = path(alloc, types, p)?;
-            let x = operand(alloc, types, x)?;
-            Ok(ExpressionNode::Assign(p, x))
-        }
-        c_annotated::ExpressionNode::AssignOp(op, p, x) => {
-            let p = path(alloc, types, p)?;
-            let x = operand(alloc, types, x)?;
-            Ok(ExpressionNode::AssignOp(*op, p, x))
-        }
-        c_annotated::ExpressionNode::Step(op, before, p) => {
-            let p = path(alloc, types, p)?;
-            Ok(ExpressionNode::Step(*op, *before, p))
-        }
-        c_annotated::ExpressionNode::CopyRecord(p, from) => {
-            let p = path(alloc, types, p)?;
-            let from = path(alloc, types, from)?;
-            Ok(ExpressionNode::CopyRecord(p, from))
-        }
-        c_annotated::ExpressionNode::Call(f, all) => {
-            let all = expressions(alloc, types, all.as_slice())?;
-            Ok(ExpressionNode::Call(*f, all))
-        }
-        c_annotated::ExpressionNode::CallThrough(e, all) => {
-            let e = operand(alloc, types, e)?;
-            let all = expressions(alloc, types, all.as_slice())?;
-            Ok(ExpressionNode::CallThrough(e, all))
-        }
-        c_annotated::ExpressionNode::Library(which, all) => {
-            let all = expressions(alloc, types, all.as_slice())?;
-            Ok(ExpressionNode::Library(*which, all))
-        }
-        c_annotated::ExpressionNode::Allocate(r, count, zeroed) => match count {
+        ExpressionNode::Constant(v) => Ok(ExpressionNode::Constant(*v)),
+        ExpressionNode::Null => Ok(ExpressionNode::Null),
+        ExpressionNode::FunctionName(f) => Ok(ExpressionNode::FunctionName(*f)),
+        ExpressionNode::Load(p) => Ok(ExpressionNode::Load(path(by, p)?)),
+        ExpressionNode::AddressOf(p) => Ok(ExpressionNode::AddressOf(path(by, p)?)),
+        ExpressionNode::Decay(p) => Ok(ExpressionNode::Decay(path(by, p)?)),
+        ExpressionNode::Convert(x, written) => Ok(ExpressionNode::Convert(
+            operand(by, x)?,
+            *written,
+        )),
+        ExpressionNode::Unary(op, x) => Ok(ExpressionNode::Unary(*op, operand(by, x)?)),
+        ExpressionNode::Binary(op, x, y) => Ok(ExpressionNode::Binary(
+            *op,
+            operand(by, x)?,
+            operand(by, y)?,
+        )),
+        ExpressionNode::Compare(op, x, y) => Ok(ExpressionNode::Compare(
+            *op,
+            operand(by, x)?,
+            operand(by, y)?,
+        )),
+        ExpressionNode::PointerAdd(op, x, y) => Ok(ExpressionNode::PointerAdd(
+            *op,
+            operand(by, x)?,
+            operand(by, y)?,
+        )),
+        ExpressionNode::PointerDiff(x, y) => Ok(ExpressionNode::PointerDiff(
+            operand(by, x)?,
+            operand(by, y)?,
+        )),
+        ExpressionNode::And(x, y) => Ok(ExpressionNode::And(operand(by, x)?, operand(by, y)?)),
+        ExpressionNode::Or(x, y) => Ok(ExpressionNode::Or(operand(by, x)?, operand(by, y)?)),
+        ExpressionNode::Not(x) => Ok(ExpressionNode::Not(operand(by, x)?)),
+        ExpressionNode::Cond(x, y, z) => Ok(ExpressionNode::Cond(
+            operand(by, x)?,
+            operand(by, y)?,
+            operand(by, z)?,
+        )),
+        ExpressionNode::Comma(x, y) => Ok(ExpressionNode::Comma(operand(by, x)?, operand(by, y)?)),
+        ExpressionNode::Assign(p, x) => Ok(ExpressionNode::Assign(path(by, p)?, operand(by, x)?)),
+        ExpressionNode::AssignOp(op, p, x) => Ok(ExpressionNode::AssignOp(
+            *op,
+            path(by, p)?,
+            operand(by, x)?,
+        )),
+        ExpressionNode::Step(op, before, p) => Ok(ExpressionNode::Step(*op, *before, path(by, p)?)),
+        ExpressionNode::CopyRecord(p, from) => Ok(ExpressionNode::CopyRecord(
+            path(by, p)?,
+            path(by, from)?,
+        )),
+        ExpressionNode::Call(f, all) => Ok(ExpressionNode::Call(
+            *f,
+            expressions(by, all.as_slice())?,
+        )),
+        ExpressionNode::CallThrough(e, all) => Ok(ExpressionNode::CallThrough(
+            operand(by, e)?,
+            expressions(by, all.as_slice())?,
+        )),
+        ExpressionNode::Library(which, all) => Ok(ExpressionNode::Library(
+            *which,
+            expressions(by, all.as_slice())?,
+        )),
+        ExpressionNode::Allocate(r, count, zeroed) => match count {
             None => Ok(ExpressionNode::Allocate(*r, None, *zeroed)),
-            Some(count) => {
-                let count = operand(alloc, types, count)?;
-                Ok(ExpressionNode::Allocate(*r, Some(count), *zeroed))
-            }
+            Some(count) => Ok(ExpressionNode::Allocate(*r, Some(operand(by, count)?), *zeroed)),
         },
     }
 }
 
 #[cycle(expression_numbering)]
-pub fn operand(
-    alloc: Global,
-    types: &TypeTable,
-    e: &Boxed<c_annotated::Expression>,
-) -> Result<Boxed<Expression>, NoMemory>
-    ensures { IfOk result (λ r. expression_of r ≡ mapped (numbered types.now) (noted_expression e.now)) }
+pub fn operand(by: Numbering, e: &Boxed<Expression<Noted>>) -> Result<Boxed<Expression>, NoMemory>
+    ensures { IfOk result (λ r. expression_of r ≡ mapped (numbered by.entry.types.now) (noted_expression e.now)) }
 {
-    let e = expression(alloc, types, e.get())?;
-    boxed(alloc, e)
+    let e = expression(by, e.get())?;
+    boxed(by.alloc, e)
 }
 
 #[cycle(expression_numbering)]
-fn expressions(
-    alloc: Global,
-    types: &TypeTable,
-    all: &[c_annotated::Expression],
-) -> Result<List<Expression>, NoMemory>
-    ensures { IfOk result (λ r. expressions_of (map expression_of r) ≡ mapped_all (numbered types.now) (noted_expressions (map noted_expression all.now))) }
+fn expressions(by: Numbering, all: &[Expression<Noted>]) -> Result<List<Expression>, NoMemory>
+    ensures { IfOk result (λ r. expressions_of (map expression_of r) ≡ mapped_all (numbered by.entry.types.now) (noted_expressions (map noted_expression all.now))) }
 {
-    let mut done = with_room(alloc, all.len())?;
+    let mut done = with_room(by.alloc, all.len())?;
     for e in all {
-        let e = expression(alloc, types, e)?;
-        add(&mut done, e)?;
+        add(&mut done, expression(by, e)?)?;
     }
     Ok(done)
 }
 
 #[cycle(expression_numbering)]
-pub fn path(
-    alloc: Global,
-    types: &TypeTable,
-    p: &Boxed<c_annotated::Path>,
-) -> Result<Boxed<Path>, NoMemory>
-    ensures { IfOk result (λ r. path_of r ≡ mapped_path (numbered types.now) (noted_path p.now)) }
+pub fn path(by: Numbering, p: &Boxed<Path<Noted>>) -> Result<Boxed<Path>, NoMemory>
+    ensures { IfOk result (λ r. path_of r ≡ mapped_path (numbered by.entry.types.now) (noted_path p.now)) }
 {
-    let p = p.get();
-    let ty = types.number(alloc, &p.ty.ty)?;
-    let node = path_node(alloc, types, &p.node)?;
+    let Path { ty, place, node } = p.get();
+    let ty = by.types.number(by.alloc, &ty.ty)?;
+    let node = path_node(by, node)?;
     boxed(
-        alloc,
+        by.alloc,
         Path {
             ty,
-            place: p.place,
+            place: *place,
             node,
         },
     )
 }
 
 #[cycle(expression_numbering)]
-fn path_node(
-    alloc: Global,
-    types: &TypeTable,
-    node: &c_annotated::PathNode,
-) -> Result<PathNode, NoMemory>
-    ensures { IfOk result (λ r. path_node_of r ≡ mapped_step (numbered types.now) (noted_path_node node.now)) }
+fn path_node(by: Numbering, node: &PathNode<Noted>) -> Result<PathNode, NoMemory>
+    ensures { IfOk result (λ r. path_node_of r ≡ mapped_step (numbered by.entry.types.now) (noted_path_node node.now)) }
 {
-    match node {
-        c_annotated::PathNode::Named(n) => Ok(PathNode::Named(*n)),
-        c_annotated::PathNode::Object(n) => Ok(PathNode::Object(*n)),
-        c_annotated::PathNode::Deref(e) => {
-            let e = operand(alloc, types, e)?;
-            Ok(PathNode::Deref(e))
-        }
-        c_annotated::PathNode::Index(e, i) => {
-            let e = operand(alloc, types, e)?;
-            let i = operand(alloc, types, i)?;
-            Ok(PathNode::Index(e, i))
-        }
-        c_annotated::PathNode::Member(p, r, field) => {
-            let p = path(alloc, types, p)?;
-            Ok(PathNode::Member(p, *r, *field))
-        }
-        c_annotated::PathNode::Element(p, i) => {
-            let i = operand(alloc, types, i)?;
-            let p = path(alloc, types, p)?;
-            Ok(PathNode::Element(p, i))
-        }
-    }
+    Ok(match node {
+        PathNode::Named(n) => PathNode::Named(*n),
+        PathNode::Object(n) => PathNode::Object(*n),
+        PathNode::Deref(e) => PathNode::Deref(operand(by, e)?),
+        PathNode::Index(e, i) => PathNode::Index(operand(by, e)?, operand(by, i)?),
+        PathNode::Member(p, r, field) => PathNode::Member(path(by, p)?, *r, *field),
+        PathNode::Element(p, i) => PathNode::Element(path(by, p)?, operand(by, i)?),
+    })
 }

@@ -6,8 +6,7 @@
 
 mod expressions;
 mod initializers;
-mod numbers;
 mod statements;
 
-pub use numbers::number_of;
-pub use statements::{numbered_statement, optional_statement};
+pub use expressions::Numbering;
+pub use statements::optional_statement;

@@ -15,7 +15,7 @@ ghost use Rattle.c_units.specs.RecognisedParts.{recognised_function};
 
 use crate::objects::name_of;
 use c_annotated::Noted;
-use c_numbered::optional_statement;
+use c_numbered::{Numbering, optional_statement};
 use c_numbers::{NumberSet, TypeTable};
 use c_recognised::recognise_statement;
 use c_typed::{Function, Local, is_scalar};
@@ -138,7 +138,7 @@ fn numbered(
         linked: f.is_linked,
         parameters: locals(alloc, types, taken, 0, parameters)?,
         locals: locals(alloc, types, taken, first, f.locals.as_slice())?,
-        body: optional_statement(alloc, types, &f.body)?,
+        body: optional_statement(Numbering { alloc, types }, &f.body)?,
         nodes: f.nodes,
     })
 }

@@ -6,5 +6,5 @@ use Rattle.c_numbered.specs.Numbered.{numbered}
 use Rattle.c_numbered.proofs.expressions.+expression_numbering.Given as goal
 
 abbrev pub invariant-expressions-loop-e : goal.invariant-expressions-loop-e
-invariant-expressions-loop-e l = map expression_of l.done ++ map (mapped (numbered l.types)) (map noted_expression (drop l.e-index l.all))
-    ≡ map (mapped (numbered l.types)) (map noted_expression l.all)
+invariant-expressions-loop-e l = map expression_of l.done ++ map (mapped (numbered l.by.types.now)) (map noted_expression (drop l.e-index l.all))
+    ≡ map (mapped (numbered l.by.types.now)) (map noted_expression l.all)

@@ -6,5 +6,5 @@ use Rattle.c_numbered.specs.Numbered.{numbered}
 use Rattle.c_numbered.proofs.initializers.parts.Given as goal
 
 abbrev pub invariant-loop-it : goal.invariant-loop-it
-invariant-loop-it l = map part_of l.done ++ map (mapped_part (numbered l.types)) (map noted_part (drop l.it-index l.all))
-    ≡ map (mapped_part (numbered l.types)) (map noted_part l.all)
+invariant-loop-it l = map part_of l.done ++ map (mapped_part (numbered l.by.types.now)) (map noted_part (drop l.it-index l.all))
+    ≡ map (mapped_part (numbered l.by.types.now)) (map noted_part l.all)

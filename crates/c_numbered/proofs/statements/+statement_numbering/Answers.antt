@@ -10,18 +10,20 @@ use Rattle.c_numbered.proofs.statements.+statement_numbering.Goals as goal
 pub statements-returns : goal.statements-returns
 statements-returns t c =
     let l = c.loop-s in
-    all_statements_mapped (numbered c.args.types.now) c.args.all.now l.done l.s-index l.invariant c.loop-s-test.false
+    all_statements_mapped (numbered c.args.by.types.now) c.args.all.now l.done l.s-index l.invariant c.loop-s-test.false
 
 pub arms-returns : goal.arms-returns
 arms-returns t c =
     let l = c.loop-it in
-    all_arms_mapped c.args.types.now c.args.all.now l.done l.it-index l.invariant c.loop-it-test.false
+    all_arms_mapped c.args.by.types.now c.args.all.now l.done l.it-index l.invariant c.loop-it-test.false
 
-pub numbered_statement-returns-in_ok-other-in-Some : goal.numbered_statement-returns-in_ok-other-in-Some
-numbered_statement-returns-in_ok-other-in-Some t c =
-    let m = numbered c.args.types.now in
+pub statement-returns-in_ok-inner-in-Some-2 : goal.statement-returns-in_ok-inner-in-Some-2
+statement-returns-in_ok-inner-in-Some-2 t c =
+    let m = numbered c.args.by.types.now in
     let a = c.in-If in
-    let e = a.is ∙ ap (λ other. S.If a.e a.one other) c.in-Some.is in
-    either_mapped m a.e c.in_ok-e-in-If.e a.one c.in_ok-one-in-If.one c.in-Some.other c.in_ok-other-in-Some.other c.in_ok-e-in-If.ensures
-    c.in_ok-one-in-If.ensures c.in_ok-other-in-Some.ensures
-    ∙ ap (λ s. mapped_statement m (noted_statement s)) (sym e)
+    let s = a.is ∙ ap (λ other. S.If a.e a.one other) c.in-Some.is in
+    let e = c.in_ok-e-in-Some in
+    let one = c.in_ok-inner-in-Some in
+    let other = c.in_ok-inner-in-Some-2 in
+    either_mapped m a.e e.e a.one one.field-0 c.in-Some.other other.field-0 e.ensures one.ensures other.ensures
+    ∙ ap (λ s. mapped_statement m (noted_statement s)) (sym s)
