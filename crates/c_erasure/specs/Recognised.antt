@@ -6,6 +6,7 @@ use Rattle.c_types.specs.Types.{CType, void, integer, pointer, structure}
 use Rattle.c_types.specs.Sameness.{same_type}
 use Rattle.c_typed.specs.declared.operators.BinaryOp.TheVariants.{Multiply}
 use Rattle.c_typed.specs.declared.operators.LibraryFunction.TheVariants.{Malloc, Calloc}
+use Rattle.c_typed.specs.Changed.{Change, changed, changed_all, changed_if_any, changed_parts, changed_path, changed_step}
 use Rattle.c_typed.specs.Trees as Trees
 use Rattle.c_typed.specs.Conversions.{is_integer}
 use Rattle.c_erasure.specs.Noted.{Noted, Note, size_of, Expression, Path, Node, PathNode, value, type_of, unconverted}
@@ -69,48 +70,33 @@ converted (pointer (structure r)) e written = if is_null_constant e then Trees.n
 converted (pointer t) e written = if is_null_constant e then Trees.null else Trees.convert e written
 converted t e written = Trees.convert e written
 
-abbrev mutual
-  pub recognised : Expression → Expression
-  recognised (Trees.expression t at node) = Trees.expression t at (recognised_node t node)
+-- a node of a type, of which the parts are done
+abbrev pub reconverted : CType → Node → Node
+reconverted t (Trees.convert e written) = converted t e written
+reconverted t node = node
 
-  pub recognised_node : Noted → Node → Node
-  recognised_node t (Trees.constant v) = Trees.constant v
-  recognised_node t Trees.null = Trees.null
-  recognised_node t (Trees.function_name f) = Trees.function_name f
-  recognised_node t (Trees.load p) = Trees.load (recognised_path p)
-  recognised_node t (Trees.address_of p) = Trees.address_of (recognised_path p)
-  recognised_node t (Trees.decay p) = Trees.decay (recognised_path p)
-  recognised_node t (Trees.convert e written) = converted t.ty (recognised e) written
-  recognised_node t (Trees.unary op x) = Trees.unary op (recognised x)
-  recognised_node t (Trees.binary op x y) = Trees.binary op (recognised x) (recognised y)
-  recognised_node t (Trees.compare op x y) = Trees.compare op (recognised x) (recognised y)
-  recognised_node t (Trees.pointer_add op x y) = Trees.pointer_add op (recognised x) (recognised y)
-  recognised_node t (Trees.pointer_difference x y) = Trees.pointer_difference (recognised x) (recognised y)
-  recognised_node t (Trees.both x y) = Trees.both (recognised x) (recognised y)
-  recognised_node t (Trees.either x y) = Trees.either (recognised x) (recognised y)
-  recognised_node t (Trees.not x) = Trees.not (recognised x)
-  recognised_node t (Trees.choose x y z) = Trees.choose (recognised x) (recognised y) (recognised z)
-  recognised_node t (Trees.comma x y) = Trees.comma (recognised x) (recognised y)
-  recognised_node t (Trees.assign p x) = Trees.assign (recognised_path p) (recognised x)
-  recognised_node t (Trees.assign_op op p x) = Trees.assign_op op (recognised_path p) (recognised x)
-  recognised_node t (Trees.step op before p) = Trees.step op before (recognised_path p)
-  recognised_node t (Trees.copy_record to from) = Trees.copy_record (recognised_path to) (recognised_path from)
-  recognised_node t (Trees.call f all) = Trees.call f (recognised_all all)
-  recognised_node t (Trees.call_through e all) = Trees.call_through (recognised e) (recognised_all all)
-  recognised_node t (Trees.library which all) = Trees.library which (recognised_all all)
-  recognised_node t (Trees.allocate r count zeroed) = Trees.allocate r count zeroed
+-- ---- trees: each conversion in them
 
-  pub recognised_path : Path → Path
-  recognised_path (Trees.path t at step) = Trees.path t at (recognised_step step)
+abbrev pub recognising : Change Noted Noted
+recognising = record {
+  expression = λ t at node. Trees.expression t at (reconverted t.ty node);
+  path = λ t at step. Trees.path t at step;
+}
 
-  pub recognised_step : PathNode → PathNode
-  recognised_step (Trees.local n) = Trees.local n
-  recognised_step (Trees.object n) = Trees.object n
-  recognised_step (Trees.deref e) = Trees.deref (recognised e)
-  recognised_step (Trees.index e i) = Trees.index (recognised e) (recognised i)
-  recognised_step (Trees.member p r field) = Trees.member (recognised_path p) r field
-  recognised_step (Trees.element p i) = Trees.element (recognised_path p) (recognised i)
+abbrev pub recognised : Expression → Expression
+recognised = changed recognising
 
-  pub recognised_all : Trees.Expressions Noted → Trees.Expressions Noted
-  recognised_all Trees.no_expressions = Trees.no_expressions
-  recognised_all (Trees.and_expression e more) = Trees.and_expression (recognised e) (recognised_all more)
+abbrev pub recognised_node : Noted → Node → Node
+recognised_node t node = reconverted t.ty (changed_parts recognising node)
+
+abbrev pub recognised_path : Path → Path
+recognised_path = changed_path recognising
+
+abbrev pub recognised_step : PathNode → PathNode
+recognised_step = changed_step recognising
+
+abbrev pub recognised_all : Trees.Expressions Noted → Trees.Expressions Noted
+recognised_all = changed_all recognising
+
+abbrev pub recognised_optional : Trees.OptionalExpression Noted → Trees.OptionalExpression Noted
+recognised_optional = changed_if_any recognising

@@ -18,6 +18,7 @@ use Rattle.c_typed.specs.declared.program.MentionKind.{MentionKind}
 use Rattle.c_typed.specs.declared.program.MentionKind.TheVariants.{Sizeof}
 use Rattle.c_typed.specs.Trees as Trees
 use Rattle.c_typed.specs.Programs.{FunctionData, UnitData}
+use Rattle.c_typed.specs.Changed.{changed_arms, changed_initializer, changed_part, changed_statement, changed_statements, changed_value}
 use Rattle.c_typed.specs.Mapped.{of_types, mapped_statement, mapped_initializer}
 use Rattle.c_typed.specs.Walk.{types_in_statement}
 use Rattle.c_typed.specs.Addressed.{addressed_by_statement}
@@ -26,48 +27,29 @@ use Rattle.c_typed.specs.Conversions.{is_scalar, is_pointer}
 use Rattle.c_typed.specs.InitialValues.{InitialValue, a_number, a_null, an_address, a_function, initial_value}
 use Rattle.c_erasure.specs.Noted.{Noted}
 use Rattle.c_erasure.specs.Scopes.{AnObject, ALocal, AFunction, AMention, FileScope, at_file_scope, declared}
-use Rattle.c_erasure.specs.Recognised.{recognised, recognised_path}
+use Rattle.c_erasure.specs.Recognised.{recognising}
 use Rattle.c_erasure.specs.SizeOperands.{operands_in_statement}
 use Rattle.c_erasure.specs.InitialMentions.{told_by_initial}
 
 -- ---- trees with allocations recognised
 
 abbrev pub recognised_value : Trees.PartValue Noted → Trees.PartValue Noted
-recognised_value (Trees.value e) = Trees.value (recognised e)
-recognised_value (Trees.record_of p) = Trees.record_of (recognised_path p)
-recognised_value (Trees.text bytes) = Trees.text bytes
+recognised_value = changed_value recognising
 
 abbrev pub recognised_part : Trees.Part Noted → Trees.Part Noted
-recognised_part part = record { offset = part.offset; value = recognised_value part.value }
+recognised_part = changed_part recognising
 
 abbrev pub recognised_initializer : Trees.Initializer Noted → Trees.Initializer Noted
-recognised_initializer (Trees.whole e) = Trees.whole (recognised e)
-recognised_initializer (Trees.whole_record p) = Trees.whole_record (recognised_path p)
-recognised_initializer (Trees.parts all) = Trees.parts (map recognised_part all)
+recognised_initializer = changed_initializer recognising
 
-abbrev mutual
-  pub recognised_statement : Trees.Statement Noted → Trees.Statement Noted
-  recognised_statement (Trees.evaluate e) = Trees.evaluate (recognised e)
-  recognised_statement (Trees.block locals all) = Trees.block locals (recognised_statements all)
-  recognised_statement (Trees.declare n initial) = Trees.declare n (option_map recognised_initializer initial)
-  recognised_statement (Trees.when e one) = Trees.when (recognised e) (recognised_statement one)
-  recognised_statement (Trees.when_else e one other) = Trees.when_else (recognised e) (recognised_statement one) (recognised_statement other)
-  recognised_statement (Trees.while e body) = Trees.while (recognised e) (recognised_statement body)
-  recognised_statement (Trees.do_while body e) = Trees.do_while (recognised_statement body) (recognised e)
-  recognised_statement (Trees.for locals start test step body) =
-      Trees.for locals (recognised_statements start) (option_map recognised test) (option_map recognised step) (recognised_statement body)
-  recognised_statement (Trees.switch e locals arms) = Trees.switch (recognised e) locals (recognised_arms arms)
-  recognised_statement Trees.break = Trees.break
-  recognised_statement Trees.continue = Trees.continue
-  recognised_statement (Trees.return e) = Trees.return (option_map recognised e)
+abbrev pub recognised_statement : Trees.Statement Noted → Trees.Statement Noted
+recognised_statement = changed_statement recognising
 
-  pub recognised_statements : Trees.Statements Noted → Trees.Statements Noted
-  recognised_statements Trees.no_statements = Trees.no_statements
-  recognised_statements (Trees.and_statement s more) = Trees.and_statement (recognised_statement s) (recognised_statements more)
+abbrev pub recognised_statements : Trees.Statements Noted → Trees.Statements Noted
+recognised_statements = changed_statements recognising
 
-  pub recognised_arms : Trees.Arms Noted → Trees.Arms Noted
-  recognised_arms Trees.no_arms = Trees.no_arms
-  recognised_arms (Trees.and_arm cases is_default all more) = Trees.and_arm cases is_default (recognised_statements all) (recognised_arms more)
+abbrev pub recognised_arms : Trees.Arms Noted → Trees.Arms Noted
+recognised_arms = changed_arms recognising
 
 -- ---- mentions: a `sizeof` that is the size operand of an allocation is none. First values of objects allocate nothing
 

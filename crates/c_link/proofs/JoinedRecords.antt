@@ -9,11 +9,11 @@ use Rattle.c_types.specs.Types.{CType, Field, Record, field_types}
 use Rattle.c_typed.specs.Programs.{UnitData}
 use Rattle.c_numbers.proofs.KeyNumbers.Laws.{all_new}
 use Rattle.c_numbers.specs.KeyNumbers.Keys.{new_keys, position, with_key}
-use Rattle.c_joining.specs.Joining.{all_records_in, all_tags, chosen, complete_in, complete_tags, if_any, records, records_in, structure_in, under, with_tag}
-use Rattle.c_joining.specs.Placing.{placed}
-use Rattle.c_joining.specs.Views.{tagged}
-use Rattle.c_joining.proofs.UnderKeys.{found_at}
-use Rattle.c_joining.proofs.Whole.{records_are, tags_of_all, with_tag_is}
+use Rattle.c_link.specs.Joining.{all_records_in, all_tags, chosen, complete_in, complete_tags, if_any, records, records_in, structure_in, under, with_tag}
+use Rattle.c_link.specs.Placing.{placed}
+use Rattle.c_link.specs.JoinedViews.{tagged}
+use Rattle.c_link.proofs.UnderKeys.{found_at}
+use Rattle.c_link.proofs.Whole.{records_are, tags_of_all, with_tag_is}
 use Rattle.c_link.specs.Clashes.{same_fields}
 use Rattle.c_link.specs.Gaps.{HasNone, IsTagClash}
 use Rattle.c_link.proofs.Layouts.{StandAmong}

@@ -3,7 +3,7 @@ use Rattle.std.proofs.Common.{◌≡◌, ◌∙◌, ℕ, List, Some, None, subst
 use Rattle.std.specs.Prelude.{Result, Ok, Err}
 use Rattle.c_typed.specs.declared.program.Typed.{Typed}
 use Rattle.c_typed.specs.Programs.{ProgramData, UnitData}
-use Rattle.c_joining.specs.Joining.{all_tags, joined}
+use Rattle.c_link.specs.Joining.{all_tags, joined}
 use Rattle.c_link.specs.declared.gap.Gap as declared
 use Rattle.c_link.specs.declared.gap.Gap.TheVariants.{TagClash, NameClash, Twice, Missing, NoMain, Limit, Memory}
 use Rattle.c_link.specs.Gaps.{Agree, HasNoMain, IsComplete, IsMissingOf, first_limit, limits}

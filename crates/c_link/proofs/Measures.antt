@@ -18,11 +18,11 @@ use Rattle.c_types.specs.Types.{CType, void}
 use Rattle.c_typed.specs.declared.program.Local.{Local}
 use Rattle.c_typed.specs.declared.program.Object.{Object}
 use Rattle.c_typed.specs.Programs.{FunctionData, UnitData}
-use Rattle.c_joining.specs.Joining.{all_functions, all_functions_in, all_objects, all_objects_in, all_tags, chosen, chosen_among, function_identities}
-use Rattle.c_joining.specs.Joining.{functions}
-use Rattle.c_joining.specs.Joining.{functions_of, if_any, is_function_defined, is_object_defined, joined, numbered_from, object_identities, objects, objects_of}
-use Rattle.c_joining.specs.Joining.{or_first, paired}
-use Rattle.c_joining.specs.Joining.{records, renaming, structure_in, tables, type_in, types, types_in, under}
+use Rattle.c_link.specs.Joining.{all_functions, all_functions_in, all_objects, all_objects_in, all_tags, chosen, chosen_among, function_identities}
+use Rattle.c_link.specs.Joining.{functions}
+use Rattle.c_link.specs.Joining.{functions_of, if_any, is_function_defined, is_object_defined, joined, numbered_from, object_identities, objects, objects_of}
+use Rattle.c_link.specs.Joining.{or_first, paired}
+use Rattle.c_link.specs.Joining.{records, renaming, structure_in, tables, type_in, types, types_in, under}
 use Rattle.c_link.specs.Counting.{AreLocalsMeasured, AreMeasured, IsCountable, IsMeasured, type_of_unit}
 use Rattle.c_link.specs.Gaps.{Agree, type_at}
 use Rattle.c_link.proofs.JoinedRecords.{IsAmong, among_flat, among_map, stand_among}

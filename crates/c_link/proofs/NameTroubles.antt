@@ -10,7 +10,7 @@ use Rattle.c_types.proofs.SameTypes.{same_is, same_self}
 use Rattle.c_types.specs.Sameness.{same_type}
 use Rattle.c_typed.specs.Programs.{UnitData}
 use Rattle.c_numbers.specs.KeyNumbers.Keys.{with_key}
-use Rattle.c_joining.specs.Joining.{chosen, chosen_among, or_first, under}
+use Rattle.c_link.specs.Joining.{chosen, chosen_among, or_first, under}
 use Rattle.c_link.specs.Clashes.{trouble_of}
 use Rattle.c_link.specs.declared.names.Asked.{Asked}
 use Rattle.c_link.specs.declared.names.Asked.TheVariants.{OneType, OneDefinition}

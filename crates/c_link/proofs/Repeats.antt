@@ -5,10 +5,10 @@ use Rattle.std.proofs.lemmas.List.{map-append}
 use Rattle.std.proofs.lemmas.List.Sums.{fold-append}
 use Rattle.c_numbers.proofs.KeyNumbers.Laws.{all_after}
 use Rattle.c_numbers.specs.KeyNumbers.Keys.{new_keys, position, with_key}
-use Rattle.c_joining.specs.Placing.{place, placed, put, replaces_one}
-use Rattle.c_joining.proofs.Placed.{put_mapped}
-use Rattle.c_joining.proofs.Pairs.{placed_append}
-use Rattle.c_joining.proofs.UnderKeys.{found_at}
+use Rattle.c_link.specs.Placing.{place, placed, put, replaces_one}
+use Rattle.c_link.proofs.Placed.{put_mapped}
+use Rattle.c_link.proofs.Pairs.{placed_append}
+use Rattle.c_link.proofs.UnderKeys.{found_at}
 use Rattle.c_link.specs.Gaps.{IsIn, Trouble}
 use Rattle.c_link.specs.Repeats.{of_that_name, repeats, told_if_any}
 

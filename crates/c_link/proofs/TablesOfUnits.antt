@@ -6,7 +6,7 @@ use Rattle.c_numbers.specs.TypeNumbers.Adding.{with_type}
 use Rattle.c_numbers.proofs.KeyNumbers.Laws as keys
 use Rattle.c_numbers.proofs.TypeNumbers.Laws as types
 use Rattle.c_typed.specs.Programs.{UnitData}
-use Rattle.c_joining.specs.Joining.{Tables, all_tags, function_identities, numbered_from, object_identities, tables, types_in}
+use Rattle.c_link.specs.Joining.{Tables, all_tags, function_identities, numbered_from, object_identities, tables, types_in}
 use Rattle.c_link.specs.Views.{no_tables, with_unit_in}
 
 fold_append : {A B : Type 0} (f : B → A → B) (start : B) (xs ys : List A) → fold f start (xs ++ ys) ≡ fold f (fold f start xs) ys

@@ -11,9 +11,9 @@ use Rattle.c_types.specs.Types.{CType, Field, Record}
 use Rattle.c_typed.specs.Programs.{UnitData}
 use Rattle.c_numbers.proofs.KeyNumbers.Laws.{all_new}
 use Rattle.c_numbers.specs.KeyNumbers.Keys.{new_keys, with_key}
-use Rattle.c_joining.specs.Joining.{all_records_in, all_tags, complete_in, complete_tags, if_any, with_tag}
-use Rattle.c_joining.specs.Views.{tagged}
-use Rattle.c_joining.proofs.Whole.{tags_of_all, with_tag_is}
+use Rattle.c_link.specs.Joining.{all_records_in, all_tags, complete_in, complete_tags, if_any, with_tag}
+use Rattle.c_link.specs.JoinedViews.{tagged}
+use Rattle.c_link.proofs.Whole.{tags_of_all, with_tag_is}
 use Rattle.c_link.specs.Clashes.{clashes, differing, same_fields, trouble_of}
 use Rattle.c_link.specs.declared.troubles.Trouble as troubles
 use Rattle.c_link.specs.Earliest.{earliest_of}

@@ -15,12 +15,12 @@ use Rattle.c_typed.specs.Programs.{UnitData}
 use Rattle.c_numbers.proofs.KeyNumbers.Laws.{all_after, all_new}
 use Rattle.c_numbers.specs.KeyNumbers.Keys.{is_among, new_keys, position, with_key}
 use Rattle.c_numbers.specs.TypeNumbers.Renumbered.{record_in, renumbered}
-use Rattle.c_joining.specs.Joining.{all_records_in, all_tags, complete_in, complete_tags, records, records_in, structure_in}
-use Rattle.c_joining.specs.Placing.{place}
-use Rattle.c_joining.specs.Records.{AreWhole}
-use Rattle.c_joining.proofs.NextRecords.{from, placed_is}
-use Rattle.c_joining.proofs.Placed.{past, stays}
-use Rattle.c_joining.proofs.Whole.{records_are, tags_of_all}
+use Rattle.c_link.specs.Joining.{all_records_in, all_tags, complete_in, complete_tags, records, records_in, structure_in}
+use Rattle.c_link.specs.Placing.{place}
+use Rattle.c_link.specs.JoinedRecords.{AreWhole}
+use Rattle.c_link.proofs.NextRecords.{from, placed_is}
+use Rattle.c_link.proofs.Placed.{past, stays}
+use Rattle.c_link.proofs.Whole.{records_are, tags_of_all}
 use Rattle.c_link.specs.Counting.{IsCountable}
 use Rattle.c_link.specs.Gaps.{Agree}
 use Rattle.c_link.proofs.JoinedRecords.{IsAmong, stand_among, tag_at, tags_are, types_renumbered}

@@ -18,7 +18,7 @@ use Rattle.c_typed.specs.References.{Reference, an_object, a_function, reference
 use Rattle.c_typed.specs.Walk.{types_in_statement}
 use Rattle.c_typed.specs.Programs.{FunctionData, UnitData, ProgramData}
 use Rattle.c_numbers.specs.TypeNumbers.Renumbered.{renumbered}
-use Rattle.c_joining.specs.Joining.{joined, structure_in, all_records_in, all_tags, with_tag, if_any}
+use Rattle.c_link.specs.Joining.{joined, structure_in, all_records_in, all_tags, with_tag, if_any}
 use Rattle.c_link.specs.Texts.{texts_in_functions}
 
 -- ---- places, in the order of the files and then of their bytes

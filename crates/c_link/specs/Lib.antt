@@ -2,9 +2,13 @@ pub mod Clashes
 pub mod Counting
 pub mod Earliest
 pub mod Gaps
+pub mod JoinedRecords
+pub mod JoinedViews
+pub mod Joining
 pub mod Linking
 pub mod Missing
 pub mod Names
+pub mod Placing
 pub mod Programs
 pub mod Repeats
 pub mod Texts

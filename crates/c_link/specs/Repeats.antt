@@ -1,8 +1,8 @@
 -- Things under names, one after another, each against the one of its name that stands for those before it.
 use Rattle.std.specs.Prelude.{ℕ, Bool, List, [], ◌∷◌, ◌++◌, map, Option, Some, None, slice_get}
 use Rattle.c_numbers.specs.KeyNumbers.Keys.{position}
-use Rattle.c_joining.specs.Joining.{chosen, under}
-use Rattle.c_joining.specs.Placing.{place}
+use Rattle.c_link.specs.Joining.{chosen, under}
+use Rattle.c_link.specs.Placing.{place}
 use Rattle.c_link.specs.Gaps.{Trouble}
 
 abbrev pub told_if_any : {A : Type 0} → (A → A → List Trouble) → Option A → A → List Trouble

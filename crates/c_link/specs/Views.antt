@@ -1,7 +1,7 @@
 -- What the tables of the program stand for, and what units have given to the program so far.
 use Rattle.std.specs.Prelude.{ℕ, List, [], fold, map}
-use Rattle.c_joining.specs.Joining.{Tables, function_identities, object_identities, types_in}
-use Rattle.c_joining.specs.Views.{JoinedData}
+use Rattle.c_link.specs.Joining.{Tables, function_identities, object_identities, types_in}
+use Rattle.c_link.specs.JoinedViews.{JoinedData}
 use Rattle.c_link.specs.declared.joining.Joined.{Joined}
 use Rattle.c_link.specs.declared.tables.Tables as declared
 use Rattle.c_numbers.specs.KeyNumbers.Keys.{with_key}

@@ -1,7 +1,7 @@
 //! Structures of one tag whose members differ (C99 6.2.7).
 
 ghost use Rattle.std.specs.Prelude.{◌≡◌, ◌++◌, [], IfOk, MatchOption, OnOk, map};
-ghost use Rattle.c_joining.specs.Joining.{all_tags};
+ghost use Rattle.c_link.specs.Joining.{all_tags};
 ghost use Rattle.c_link.specs.Clashes.{clashes, differing, same_field, same_fields, trouble_of};
 ghost use Rattle.c_link.specs.Gaps.{HasNone, IsEarliest, IsTagClash};
 ghost use Rattle.c_link.specs.Repeats.{told_if_any};

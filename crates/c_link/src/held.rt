@@ -1,7 +1,7 @@
 //! What a program holds: the types of what it defines and of the nodes of its bodies, and the objects and functions to which it refers.
 
 ghost use Rattle.std.specs.Prelude.{◌≡◌, ◌++◌, IfOk, OnOk, flat_map, map};
-ghost use Rattle.c_joining.specs.Joining.{if_any};
+ghost use Rattle.c_link.specs.Joining.{if_any};
 ghost use Rattle.c_link.specs.Gaps.{all_references, referred_by_value, types_of_function, types_of_object};
 ghost use Rattle.c_typed.specs.Programs.{data_of, program_data};
 ghost use Rattle.c_typed.specs.References.{references_by_statement};

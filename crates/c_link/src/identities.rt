@@ -1,7 +1,7 @@
 //! What the objects and functions of a unit are in a program, as keys, and their numbers among those of all units.
 
 ghost use Rattle.std.specs.Prelude.{◌≡◌, [], IfOk, OnOk, fold, get_or, map};
-ghost use Rattle.c_joining.specs.Joining.{function_identities, identity, object_identities};
+ghost use Rattle.c_link.specs.Joining.{function_identities, identity, object_identities};
 ghost use Rattle.c_numbers.specs.KeyNumbers.Keys.{position, with_key};
 ghost use Rattle.c_numbers.specs.NewNumbers.Numbers.{number_at};
 ghost use Rattle.c_typed.specs.Programs.{data_of};

@@ -1,9 +1,9 @@
 //! The objects, functions and mentions of the units, one after another, each object and function to its number.
 
 ghost use Rattle.std.specs.Prelude.{◌≡◌, ◌+◌, ◌*◌, ◌^◌, ◌≤◌, ◌++◌, IfOk, OnOk, fold, map};
-ghost use Rattle.c_joining.specs.Joining.{is_function_defined, is_object_defined, numbered_from};
-ghost use Rattle.c_joining.specs.Placing.{place, placed_by, put, replaces};
-ghost use Rattle.c_joining.specs.Views.{nothing, with_unit};
+ghost use Rattle.c_link.specs.Joining.{is_function_defined, is_object_defined, numbered_from};
+ghost use Rattle.c_link.specs.Placing.{place, placed_by, put, replaces};
+ghost use Rattle.c_link.specs.JoinedViews.{nothing, with_unit};
 ghost use Rattle.c_link.specs.Views.{joined_of, tables_of};
 ghost use Rattle.c_numbers.specs.NewNumbers.Numbers.{renaming_of};
 ghost use Rattle.c_numbers.specs.NewNumbers.Parts.{function_in, mention_in, object_in};

@@ -1,7 +1,7 @@
 //! The program of units, or their first gap.
 
 ghost use Rattle.std.specs.Prelude.{◌≡◌, ◌↔◌, All, IsTrue, map};
-ghost use Rattle.c_joining.specs.Joining.{all_tags};
+ghost use Rattle.c_link.specs.Joining.{all_tags};
 ghost use Rattle.c_link.specs.Counting.{AreMeasured, IsCountable};
 ghost use Rattle.c_link.specs.Gaps.{Agree, HasMain};
 ghost use Rattle.c_link.specs.Linking.{AgreeGives, CompleteGives, LinkGives, WithinGives};

@@ -7,7 +7,7 @@ ghost use Rattle.c_link.specs.Gaps.{HasNone, IsEarliest, linked_in, trouble};
 ghost use Rattle.c_typed.specs.Programs.{unit_data};
 ghost use Rattle.c_link.specs.Names.{IsAsked, counts, linked_of, told_by};
 ghost use Rattle.c_link.specs.Repeats.{repeats, told_if_any};
-ghost use Rattle.c_joining.specs.Placing.{replaces_one};
+ghost use Rattle.c_link.specs.Placing.{replaces_one};
 ghost use Rattle.c_numbers.specs.KeyNumbers.Keys.{with_key};
 
 use crate::joining::put;

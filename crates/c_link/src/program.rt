@@ -1,10 +1,10 @@
 //! The program of units.
 
 ghost use Rattle.std.specs.Prelude.{◌≡◌, ◌≤◌, [], false, true, IfOk, OnOk, length, map};
-ghost use Rattle.c_joining.specs.Joining.{all_tags, joined, records};
-ghost use Rattle.c_joining.specs.Placing.{placed, put};
-ghost use Rattle.c_joining.specs.Records.{AreWhole, CanFollow};
-ghost use Rattle.c_joining.specs.Views.{assembled, tagged};
+ghost use Rattle.c_link.specs.Joining.{all_tags, joined, records};
+ghost use Rattle.c_link.specs.Placing.{placed, put};
+ghost use Rattle.c_link.specs.JoinedRecords.{AreWhole, CanFollow};
+ghost use Rattle.c_link.specs.JoinedViews.{assembled, tagged};
 ghost use Rattle.c_link.specs.Views.{joined_of};
 ghost use Rattle.c_typed.specs.Programs.{program_data, unit_data};
 ghost use Rattle.c_types.specs.Views.{records_of, type_of};

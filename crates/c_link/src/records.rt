@@ -1,7 +1,7 @@
 //! The records of the units, with the numbers of the program.
 
 ghost use Rattle.std.specs.Prelude.{◌≡◌, ◌++◌, IfOk, OnOk, flat_map, map};
-ghost use Rattle.c_joining.specs.Joining.{records_in};
+ghost use Rattle.c_link.specs.Joining.{records_in};
 ghost use Rattle.c_numbers.specs.NewNumbers.Numbers.{number_at};
 ghost use Rattle.c_numbers.specs.TypeNumbers.Renumbered.{field_in, record_in};
 ghost use Rattle.c_typed.specs.Programs.{unit_data};

@@ -1,7 +1,7 @@
 //! The tables by which a program's numbers go, and what a unit's numbers become.
 
 ghost use Rattle.std.specs.Prelude.{◌≡◌, IfOk, OnOk, map};
-ghost use Rattle.c_joining.specs.Joining.{all_tags, renaming, tables};
+ghost use Rattle.c_link.specs.Joining.{all_tags, renaming, tables};
 ghost use Rattle.c_link.specs.Views.{tables_of, with_unit_in};
 ghost use Rattle.c_numbers.specs.NewNumbers.Numbers.{renaming_of};
 ghost use Rattle.c_typed.specs.Programs.{unit_data};

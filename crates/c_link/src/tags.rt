@@ -1,7 +1,7 @@
 //! The tags of a program's structures, and the numbers that a unit's structures have among them.
 
 ghost use Rattle.std.specs.Prelude.{◌≡◌, IfOk, map};
-ghost use Rattle.c_joining.specs.Joining.{all_tags, structure_in};
+ghost use Rattle.c_link.specs.Joining.{all_tags, structure_in};
 ghost use Rattle.c_numbers.specs.NewNumbers.Numbers.{number_at};
 ghost use Rattle.c_typed.specs.Programs.{unit_data};
 

@@ -2,7 +2,7 @@
 
 ghost use Rattle.std.specs.Prelude.{◌≡◌, IfOk, OnOk, fold, get_or, map};
 ghost use Rattle.c_erasure.specs.Units.{number_in};
-ghost use Rattle.c_joining.specs.Joining.{types_in};
+ghost use Rattle.c_link.specs.Joining.{types_in};
 ghost use Rattle.c_numbers.specs.NewNumbers.Numbers.{number_at};
 ghost use Rattle.c_numbers.specs.TypeNumbers.Adding.{with_type};
 ghost use Rattle.c_numbers.specs.TypeNumbers.Renumbered.{renumbered};

@@ -57,10 +57,10 @@ pub fn optional_initializer(
 ) -> Result<Option<Initializer>, NoMemory>
     ensures { IfOk result (λ r. option_map initializer_of r ≡ option_map (mapped_initializer (numbered by.entry.types.now)) (option_map noted_initializer initial.now)) }
 {
-    Ok(match initial {
-        None => None,
-        Some(Initializer::Value(e)) => Some(Initializer::Value(operand(by, e)?)),
-        Some(Initializer::Record(p)) => Some(Initializer::Record(path(by, p)?)),
-        Some(Initializer::Parts(all)) => Some(Initializer::Parts(parts(by, all.as_slice())?)),
-    })
+    match initial {
+        None => Ok(None),
+        Some(Initializer::Value(e)) => Ok(Some(Initializer::Value(operand(by, e)?))),
+        Some(Initializer::Record(p)) => Ok(Some(Initializer::Record(path(by, p)?))),
+        Some(Initializer::Parts(all)) => Ok(Some(Initializer::Parts(parts(by, all.as_slice())?))),
+    }
 }

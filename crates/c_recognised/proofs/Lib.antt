@@ -1,4 +1,2 @@
 pub mod Calls
-pub mod Lists
 pub mod SizeCalls
-pub mod Optional

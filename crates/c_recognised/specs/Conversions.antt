@@ -1,15 +1,10 @@
 -- What a node becomes that may be a conversion whose operand is done.
 use Rattle.std.specs.Prelude.{ℕ, Bool, true, false, is_some}
-use Rattle.c_types.specs.Types.{CType}
 use Rattle.c_typed.specs.Trees as Trees
 use Rattle.c_erasure.specs.Noted.{Node}
-use Rattle.c_erasure.specs.Recognised.{allocation, converted, or_converted}
+use Rattle.c_erasure.specs.Recognised.{allocation, or_converted}
 use Rattle.c_recognised.specs.declared.allocations.Becomes.{Becomes}
 use Rattle.c_recognised.specs.declared.allocations.Becomes.TheVariants as C
-
-abbrev pub reconverted : CType → Node → Node
-reconverted t (Trees.convert e written) = converted t e written
-reconverted t node = node
 
 abbrev pub allocated_by : ℕ → Node → Node
 allocated_by r (Trees.convert e written) = or_converted r (allocation r e) e written

@@ -1,4 +1,3 @@
-pub mod Arms
 pub mod Calls
 pub mod Conversions
 pub mod Operands

@@ -2,11 +2,10 @@
 
 ghost use Rattle.std.specs.Prelude.{◌≡◌, IfOk, IsTrue, OnOk, Some, is_some, map};
 ghost use Rattle.std.specs.Option.{option_map};
-ghost use Rattle.c_annotated.specs.Views.{expression_of, expressions_of, optional_of};
-ghost use Rattle.c_erasure.specs.Recognised.{allocation, is_null_constant};
+ghost use Rattle.c_annotated.specs.Views.{expression_of, expressions_of, node_of, optional_of};
+ghost use Rattle.c_erasure.specs.Recognised.{allocation, is_null_constant, reconverted};
 ghost use Rattle.c_recognised.specs.Calls.{by_call, calloc_count, malloc_count};
-ghost use Rattle.c_recognised.specs.Conversions.{allocated_by, became, is_fit, may_allocate, reconverted};
-ghost use Rattle.c_annotated.specs.Views.{node_of};
+ghost use Rattle.c_recognised.specs.Conversions.{allocated_by, became, is_fit, may_allocate};
 ghost use Rattle.c_types.specs.Sameness.{same_type};
 ghost use Rattle.c_types.specs.Types.{pointer, void};
 ghost use Rattle.c_types.specs.Views.{type_of};

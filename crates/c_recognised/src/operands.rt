@@ -1,8 +1,7 @@
 //! Where the `sizeof` stands that is the size operand of an allocation.
 
-ghost use Rattle.std.specs.Prelude.{◌≡◌, ◌++◌, OnOk, map};
-ghost use Rattle.c_annotated.specs.Views.{node_of};
-ghost use Rattle.c_annotated.specs.Views.{expression_of, expressions_of};
+ghost use Rattle.std.specs.Prelude.{◌≡◌, map};
+ghost use Rattle.c_annotated.specs.Views.{expression_of, expressions_of, node_of};
 ghost use Rattle.c_erasure.specs.SizeOperands.{bytes_place, call_place, constant_place, size_operand, size_place};
 ghost use Rattle.c_erasure.specs.Units.{if_any};
 ghost use Rattle.c_recognised.specs.Operands.{calloc_place, malloc_place};
@@ -12,7 +11,6 @@ use crate::sizes::{is_constant_of, is_size, lent_unconverted};
 use c_annotated::{Expression, ExpressionNode};
 use c_typed::{BinaryOp, LibraryFunction};
 use c_types::Ty;
-use lay_base::{List, NoMemory, add};
 
 /// Where the size of the record with a number stands, if an expression is that.
 fn constant_place(r: usize, e: &Expression) -> Option<usize>
@@ -96,15 +94,5 @@ pub fn size_operand(t: &Ty, node: &ExpressionNode) -> Option<usize>
             _ => None,
         },
         _ => None,
-    }
-}
-
-/// Adds a place, where there is one.
-pub fn add_place(places: &mut List<usize>, place: Option<usize>) -> Result<(), NoMemory>
-    ensures { OnOk result (places.new ≡ places.old ++ if_any place) }
-{
-    match place {
-        None => Ok(()),
-        Some(place) => add(places, place),
     }
 }

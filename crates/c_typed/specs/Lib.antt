@@ -1,6 +1,8 @@
 pub mod Trees
 pub mod TreeViews
 pub mod Views
+pub mod Changed
+pub mod Gathered
 pub mod Mapped
 pub mod Walk
 pub mod Addressed

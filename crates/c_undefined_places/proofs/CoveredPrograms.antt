@@ -30,8 +30,8 @@ use Rattle.c_typed.specs.Walk.{types_in_statement}
 use Rattle.c_erasure.specs.Units.{number_in}
 use Rattle.c_numbers.specs.NewNumbers.Parts.{function_in, initial_in, local_in, mention_in, object_in, value_in}
 use Rattle.c_numbers.specs.TypeNumbers.Renumbered.{renumbered, all_renumbered}
-use Rattle.c_joining.specs.Joining.{joined, all_tags, structure_in, type_in, types_in, types, tables, renaming, mentions_of, numbered_from, records}
-use Rattle.c_joining.specs.Joining.{objects, functions, object_identities, function_identities, is_object_defined, is_function_defined}
+use Rattle.c_link.specs.Joining.{joined, all_tags, structure_in, type_in, types_in, types, tables, renaming, mentions_of, numbered_from, records}
+use Rattle.c_link.specs.Joining.{objects, functions, object_identities, function_identities, is_object_defined, is_function_defined}
 use Rattle.c_link.specs.Gaps.{HasNone, IsTagClash}
 use Rattle.c_link.specs.Programs.{IsProgramOf}
 use Rattle.c_link.proofs.JoinedRecords.{IsAmong, among_at, among_flat, among_map, stand_among}

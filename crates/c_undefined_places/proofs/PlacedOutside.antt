@@ -8,7 +8,7 @@ use Rattle.c_typed.specs.declared.program.Mention.{Mention}
 use Rattle.c_typed.specs.Programs.{UnitData}
 use Rattle.c_numbers.specs.NewNumbers.Parts.{mention_in}
 use Rattle.c_numbers.specs.TypeNumbers.Renumbered.{field_in, record_in}
-use Rattle.c_joining.specs.Joining.{numbered_from, with_tag, records_in, all_records_in, all_tags, complete_tags, structure_in, records, tables, renaming, mentions_of, joined}
+use Rattle.c_link.specs.Joining.{numbered_from, with_tag, records_in, all_records_in, all_tags, complete_tags, structure_in, records, tables, renaming, mentions_of, joined}
 use Rattle.c_well_typed.proofs.GapPlaces.PlacesOfUnits.{ArePlaced}
 use Rattle.c_well_typed.proofs.GapPlaces.Everywhere.{both, each_of, all_of, chosen}
 

@@ -13,7 +13,7 @@ use Rattle.c_typed.specs.Trees as Typed
 use Rattle.c_numbers.specs.NewNumbers.Parts.{function_in}
 use Rattle.c_checking_laws.specs.TextOrder.TextOrder.{TextsAreInOrder}
 use Rattle.c_grammar.proofs.FirstPlaces.{trees_begin_first}
-use Rattle.c_joining.specs.Joining.{joined, renaming, tables, function_identities, functions, is_function_defined}
+use Rattle.c_link.specs.Joining.{joined, renaming, tables, function_identities, functions, is_function_defined}
 use Rattle.c_link.proofs.JoinedRecords.{IsAmong}
 use Rattle.c_link.specs.Gaps.{HasMain}
 use Rattle.legality.specs.Breaches.{breach}

@@ -11,7 +11,7 @@ use Rattle.c_typed.specs.declared.operators.LibraryFunction.TheVariants.{Malloc,
 use Rattle.c_typed.specs.Trees
 use Rattle.c_erasure.specs.Noted.{Noted, Note, nothing, size_of, Expression, Path, Node, PathNode, unless_noted, unconverted}
 use Rattle.c_erasure.specs.Recognised.{is_note_of, is_size, as_unsigned_from, as_unsigned, counted, allocated, allocation, or_converted, is_null_constant}
-use Rattle.c_erasure.specs.Recognised.{converted, recognised, recognised_node, recognised_path, recognised_step, recognised_all}
+use Rattle.c_erasure.specs.Recognised.{converted, recognised, recognised_node, recognised_optional, recognised_path, recognised_step, recognised_all}
 use Rattle.c_erasure.specs.Units.{recognised_value, recognised_part, recognised_initializer, recognised_statement, recognised_statements, recognised_arms}
 use Rattle.c_undefined_places.specs.Placed.{IsPlaced, IsPlacedNode, IsPlacedPath, IsPlacedStep, ArePlaced, IsPlacedCount, IsPlacedValue, ArePlacedParts}
 use Rattle.c_undefined_places.specs.Placed.{IsPlacedInitial, IsPlacedIfAny, IsPlacedStatement, ArePlacedStatements, ArePlacedArms}
@@ -122,7 +122,11 @@ module _ (Is : Place → Type 0) where
     node_again t (Trees.call f all) h = all_again all h
     node_again t (Trees.call_through e all) h = (again e h.0, all_again all h.1)
     node_again t (Trees.library which all) h = all_again all h
-    node_again t (Trees.allocate r count zeroed) h = h
+    node_again t (Trees.allocate r count zeroed) h = count_again count h
+
+    count_again : (count : Trees.OptionalExpression Noted) → IsPlacedCount Is count → IsPlacedCount Is (recognised_optional count)
+    count_again Trees.no_expression h = tt
+    count_again (Trees.some_expression e) h = again e h
 
     all_again : (all : Trees.Expressions Noted) → ArePlaced Is all → ArePlaced Is (recognised_all all)
     all_again Trees.no_expressions h = tt

@@ -1,3 +1,4 @@
+pub mod GivenParts
 pub mod Tables
 pub mod Alike
 pub mod Whole

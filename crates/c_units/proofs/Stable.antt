@@ -22,11 +22,12 @@ use Rattle.c_erasure.specs.Scopes.{AFunction, ALocal, AMention}
 use Rattle.c_erasure.specs.Units.{if_any, is_among, is_sizeof, new_among, number_in}
 use Rattle.c_numbers.proofs.TypeNumbers.Laws.{all_new}
 use Rattle.c_typed.specs.Programs.{FunctionData}
-use Rattle.c_units.specs.CollectedTypes.{all_types, function_types, given_types, object_types}
+use Rattle.c_units.specs.CollectedTypes.{function_types, given_types, object_types}
 use Rattle.c_units.specs.NumberedParts.{function_in, locals_in, mention_in, object_in, taken_in}
 use Rattle.c_units.specs.RecognisedParts.{recognised_function}
 use Rattle.c_units.specs.SizeOperands.{given_mentions, is_operand, kept, kept_types, operands_in, operands_of}
-use Rattle.c_units.specs.UnitWith.{GivenParts, given, numbered}
+use Rattle.c_units.specs.UnitWith.{GivenParts}
+use Rattle.c_units.proofs.GivenParts.{all_types, given, numbered}
 use Rattle.c_units.specs.ValuedObjects.{ValuedObject}
 use Rattle.c_units.proofs.Agreeing.{apart, of_statement}
 

@@ -21,11 +21,12 @@ use Rattle.c_erasure.specs.Noted.{Noted}
 use Rattle.c_erasure.specs.Scopes.{AFunction, ALocal, AMention, AnObject, FileScope}
 use Rattle.c_erasure.specs.SizeOperands.{operands_in_statement}
 use Rattle.c_erasure.specs.Units as U
-use Rattle.c_units.specs.CollectedTypes.{all_types, function_types, object_types, stored_types}
+use Rattle.c_units.specs.CollectedTypes.{function_types, object_types, stored_types}
 use Rattle.c_units.specs.NumberedParts.{function_in, initial_in, locals_in, mention_in, object_in, taken_in}
 use Rattle.c_units.specs.RecognisedParts.{recognised_function, recognised_object}
 use Rattle.c_units.specs.SizeOperands.{given_mentions, kept, mentions_of, operands_of, told}
-use Rattle.c_units.specs.UnitWith.{GivenParts, given, given_by, numbered, unit_with}
+use Rattle.c_units.specs.UnitWith.{GivenParts, given_by, unit_with}
+use Rattle.c_units.proofs.GivenParts.{all_types, given, numbered}
 use Rattle.c_units.specs.ValuedObjects.{ValuedObject, valued}
 
 -- ---- lists

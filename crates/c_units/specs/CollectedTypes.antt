@@ -19,9 +19,6 @@ abbrev pub function_types : AFunction → List CType
 function_types g = g.ty ∷ (map (λ l. l.ty) g.parameters ++ (map (λ l. l.ty) g.locals
     ++ flat_map (λ s. map (λ t. t.ty) (types_in_statement s)) (if_any g.body)))
 
-abbrev pub all_types : List ValuedObject → List AFunction → List AMention → List CType
-all_types objects functions mentions = flat_map object_types objects ++ (flat_map function_types functions ++ map (λ m. m.ty) mentions)
-
 -- those of functions that are not yet recognised, and of mentions
 abbrev pub given_types : List AFunction → List AMention → List AMention → List CType
 given_types functions mentions others =

@@ -1,5 +1,5 @@
 -- A unit whose tree has that number of nodes.
-use Rattle.std.specs.Prelude.{ℕ, List, [], drop, length, map}
+use Rattle.std.specs.Prelude.{ℕ, List, drop, length, map}
 use Rattle.c_types.specs.Types.{CType}
 use Rattle.c_types.specs.declared.ty.Ty.{Ty}
 use Rattle.c_types.specs.Views.{type_of}
@@ -7,11 +7,8 @@ use Rattle.c_typed.specs.Programs.{FunctionData, UnitData, data_of}
 use Rattle.c_typed.specs.declared.program.Function.{Function}
 use Rattle.c_typed.specs.declared.program.Mention.{Mention}
 use Rattle.c_typed.specs.declared.program.Object.{Object}
-use Rattle.c_erasure.specs.Scopes.{AFunction, AMention, FileScope}
-use Rattle.c_erasure.specs.Units.{function, mention, mentions, new_among, object, types}
-use Rattle.c_units.specs.CollectedTypes.{all_types}
-use Rattle.c_units.specs.NumberedParts.{function_in, mention_in, object_in}
-use Rattle.c_units.specs.ValuedObjects.{ValuedObject}
+use Rattle.c_erasure.specs.Scopes.{FileScope}
+use Rattle.c_erasure.specs.Units.{function, mention, mentions, object, types}
 
 abbrev pub unit_with : ℕ → FileScope → UnitData
 unit_with nodes f = record {
@@ -35,21 +32,6 @@ pub record GivenParts : Type 0 where
 -- by the table of all types, and the objects, functions and mentions
 abbrev pub parts_of : List Ty → List Object × List Function × List Mention → GivenParts
 parts_of types parts = record { types = map type_of types; objects = parts.0; functions = map data_of parts.1; mentions = parts.2 }
-
--- by the list of all types, and with numbered functions
-abbrev pub given_with : List CType → ℕ → List ValuedObject → List FunctionData → List AMention → GivenParts
-given_with all file os gs ms = record {
-  types = all;
-  objects = map (object_in all) os;
-  functions = gs;
-  mentions = map (mention_in all file) ms;
-}
-
-abbrev pub numbered : List CType → ℕ → List ValuedObject → List AFunction → List AMention → GivenParts
-numbered all file os gs ms = given_with all file os (map (function_in all) gs) ms
-
-abbrev pub given : ℕ → List ValuedObject → List AFunction → List AMention → GivenParts
-given file os gs ms = numbered (new_among [] (all_types os gs ms)) file os gs ms
 
 abbrev pub given_by : FileScope → GivenParts
 given_by f = record {

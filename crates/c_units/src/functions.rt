@@ -17,9 +17,9 @@ use crate::objects::name_of;
 use c_annotated::Noted;
 use c_numbered::{Numbering, optional_statement};
 use c_numbers::{NumberSet, TypeTable};
-use c_recognised::recognise_statement;
+use c_recognised::Recognition;
 use c_typed::{Function, Local, is_scalar};
-use c_walks::{Nodes, walk_statement};
+use c_walks::{Nodes, change_statement, walk_statement};
 use lay_base::{List, NoMemory, add};
 use std::alloc::Global;
 
@@ -34,7 +34,7 @@ fn recognise(
 {
     match &mut f.body {
         None => Ok(()),
-        Some(body) => recognise_statement(alloc, places, body),
+        Some(body) => change_statement(&Recognition { alloc }, places, body),
     }
 }
 

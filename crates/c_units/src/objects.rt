@@ -15,9 +15,10 @@ ghost use Rattle.c_units.specs.ValuedObjects.{valued_of, valued_with};
 use c_annotated::{Mention, Object};
 use c_initial_values::{Store, Value, stores_of, told_by_initial};
 use c_numbers::TypeTable;
-use c_recognised::optional_initializer;
+use c_recognised::Recognition;
 use c_typed::{Initial, InitialValue, is_pointer};
 use c_types::{IntKind, Records};
+use c_walks::change_initial;
 use lay_base::{List, Name, NoMemory, add, copied};
 use std::alloc::Global;
 
@@ -33,7 +34,7 @@ fn recognise(alloc: Global, o: &mut Object) -> Result<(), NoMemory>
 {
     // The size operands of allocations are asked for of bodies alone.
     let mut places = List::new(alloc);
-    optional_initializer(alloc, &mut places, &mut o.initial)
+    change_initial(&Recognition { alloc }, &mut places, &mut o.initial)
 }
 
 /// Recognises allocations and null pointers in objects.

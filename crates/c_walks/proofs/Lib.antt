@@ -1,0 +1,2 @@
+pub mod ChangedLists
+pub mod ChangedParts

@@ -1,1 +1,2 @@
 pub mod NodeTypes
+pub mod Redone

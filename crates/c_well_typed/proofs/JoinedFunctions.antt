@@ -24,9 +24,9 @@ use Rattle.c_typed.specs.TypeNumbers.{type_at}
 use Rattle.c_typed.specs.Walk.{types_in_statement}
 use Rattle.c_erasure.specs.Units.{number_in}
 use Rattle.c_numbers.specs.NewNumbers.Parts.{function_in, local_in, object_in}
-use Rattle.c_joining.specs.Joining.{joined, tables, all_tags, structure_in, type_in, types_in, types, renaming, numbered_from, object_identities}
-use Rattle.c_joining.specs.Joining.{function_identities, identity}
-use Rattle.c_joining.specs.Joining.{objects, functions, records, all_objects, all_functions, is_object_defined, is_function_defined}
+use Rattle.c_link.specs.Joining.{joined, tables, all_tags, structure_in, type_in, types_in, types, renaming, numbered_from, object_identities}
+use Rattle.c_link.specs.Joining.{function_identities, identity}
+use Rattle.c_link.specs.Joining.{objects, functions, records, all_objects, all_functions, is_object_defined, is_function_defined}
 use Rattle.c_link.specs.Gaps.{Agree}
 use Rattle.c_link.proofs.JoinedRecords as Joined
 use Rattle.c_link.proofs.JoinedRecords.{among_at, among_flat, among_map, stand_among}

@@ -8,7 +8,7 @@ use Rattle.lay_base.specs.declared.faults.LimitKind.{LimitKind}
 use Rattle.lay_base.specs.declared.faults.LimitKind.TheVariants.{Nodes, Fields, Frame, Globals}
 use Rattle.c_types.specs.Types.{Record}
 use Rattle.c_typed.specs.Programs.{FunctionData, ProgramData}
-use Rattle.c_joining.specs.Joining.{joined}
+use Rattle.c_link.specs.Joining.{joined}
 use Rattle.c_link.specs.Gaps.{first_past, past_alone, past, or_limit, first_limit, limits, local_bytes, global_bytes}
 use Rattle.c_well_typed.specs.Within.{IsWithinLimits, ProgramsAreWithinLimits}
 

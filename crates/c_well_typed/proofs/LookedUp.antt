@@ -9,9 +9,9 @@ use Rattle.std.specs.Str.{bytes_eq}
 use Rattle.c_numbers.proofs.KeyNumbers.Laws.{all_new}
 use Rattle.c_numbers.specs.KeyNumbers.Keys.{is_among, new_keys, position}
 use Rattle.c_typed.specs.Programs.{UnitData}
-use Rattle.c_joining.specs.Joining.{numbered_from, named, identity, paired, under, chosen, chosen_among, or_first, if_any}
-use Rattle.c_joining.specs.Placing.{placed}
-use Rattle.c_joining.proofs.UnderKeys.{placed_all, found_at}
+use Rattle.c_link.specs.Joining.{numbered_from, named, identity, paired, under, chosen, chosen_among, or_first, if_any}
+use Rattle.c_link.specs.Placing.{placed}
+use Rattle.c_link.proofs.UnderKeys.{placed_all, found_at}
 use Rattle.c_link.proofs.JoinedRecords.{IsAmong, among_flat, among_at}
 
 abbrev Key : Type 0

@@ -5,8 +5,8 @@ use Rattle.std.proofs.lemmas.List.{length-append}
 use Rattle.std.specs.Prelude.{if◌then◌else◌, Option, Some, None}
 use Rattle.c_typed.specs.Programs.{FunctionData, UnitData, ProgramData}
 use Rattle.c_numbers.specs.KeyNumbers.Keys.{is_among, new_keys}
-use Rattle.c_joining.specs.Joining.{all_functions, all_functions_in, chosen, function_identities, functions, if_any, is_function_defined, joined, numbered_from}
-use Rattle.c_joining.specs.Joining.{under}
+use Rattle.c_link.specs.Joining.{all_functions, all_functions_in, chosen, function_identities, functions, if_any, is_function_defined, joined, numbered_from}
+use Rattle.c_link.specs.Joining.{under}
 use Rattle.c_link.proofs.JoinedRecords.{IsAmong}
 use Rattle.c_well_typed.specs.Within.{ProgramsHaveFewFunctions}
 use Rattle.c_well_typed.proofs.FileFunctions.{HasFewFunctions, units_have_few_functions}

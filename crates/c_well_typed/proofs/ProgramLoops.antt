@@ -10,7 +10,7 @@ use Rattle.c_typed.specs.Programs.{FunctionData, UnitData, ProgramData}
 use Rattle.c_typed.specs.Trees as Typed
 use Rattle.c_tokens.specs.TokenPlaces.{TokensHavePlaces}
 use Rattle.c_numbers.specs.NewNumbers.Parts.{function_in}
-use Rattle.c_joining.specs.Joining.{joined, tables, renaming, functions, is_function_defined, function_identities}
+use Rattle.c_link.specs.Joining.{joined, tables, renaming, functions, is_function_defined, function_identities}
 use Rattle.c_link.proofs.JoinedRecords.{IsAmong, among_at}
 use Rattle.c_well_typed.specs.Within.{ProgramsHaveFewLoops}
 use Rattle.c_well_typed.proofs.FileLoops.{HasFewLoops, units_have_few_loops}

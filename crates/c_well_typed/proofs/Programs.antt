@@ -11,7 +11,7 @@ use Rattle.c_typed.specs.TypeNumbers.{type_at}
 use Rattle.c_ast.specs.Trees
 use Rattle.c_ast.specs.TreesOfFiles.{IsTreeOf}
 use Rattle.c_erasure.specs.Erasing.{ErasesTo}
-use Rattle.c_joining.specs.Joining.{joined, objects}
+use Rattle.c_link.specs.Joining.{joined, objects}
 use Rattle.c_checking_units.specs.TypeLimits.Limits.{HasSmallArrays, UnitsHaveSmallArrays}
 use Rattle.c_link.specs.Programs.{AreUnitsOf, IsUnitOfFile}
 use Rattle.c_link.proofs.JoinedRecords.{IsAmong}

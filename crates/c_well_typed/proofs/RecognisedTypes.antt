@@ -14,7 +14,7 @@ use Rattle.c_typed.specs.Walk.{types_in, types_in_node, types_in_path, types_in_
 use Rattle.c_typed.specs.Walk.{types_in_value, types_in_initializer, types_in_initial, types_if_any, types_in_statement, types_in_statements, types_in_arms}
 use Rattle.c_erasure.specs.Noted.{Noted, Note, nothing, size_of, Expression, Path, Node, PathNode, value, plain, unconverted}
 use Rattle.c_erasure.specs.Recognised.{as_unsigned, as_unsigned_from, counted, is_size, is_note_of, allocated, allocation, or_converted, is_null_constant}
-use Rattle.c_erasure.specs.Recognised.{converted, recognised, recognised_node, recognised_path, recognised_step, recognised_all}
+use Rattle.c_erasure.specs.Recognised.{converted, recognised, recognised_node, recognised_optional, recognised_path, recognised_step, recognised_all}
 use Rattle.c_erasure.specs.Units.{recognised_value, recognised_part, recognised_initializer, recognised_statement, recognised_statements, recognised_arms}
 use Rattle.c_well_typed.proofs.Numbers.{two_parts}
 use Rattle.c_well_typed.proofs.MadeNodes.{AreWhole, joined}
@@ -160,7 +160,11 @@ module _ (H : CType → Type 0) (unsigned : H (integer UInt)) where
     node_types t (Trees.call_through e all) h =
         both (types_in e) (types_in (recognised e)) (types_in_all all) (types_in_all (recognised_all all)) (recognised_types e) (all_types all) h
     node_types t (Trees.library which all) h = all_types all h
-    node_types t (Trees.allocate r n zeroed) h = h
+    node_types t (Trees.allocate r n zeroed) h = optional_types n h
+
+    optional_types : (n : Trees.OptionalExpression Noted) → A (types_in_optional n) → A (types_in_optional (recognised_optional n))
+    optional_types Trees.no_expression h = h
+    optional_types (Trees.some_expression e) h = recognised_types e h
 
     path_types : (p : Path) → A (types_in_path p) → A (types_in_path (recognised_path p))
     path_types (Trees.path t at step) h = both (types_in_step step) (types_in_step (recognised_step step)) (t ∷ []) (t ∷ []) (step_types step) (λ k. k) h

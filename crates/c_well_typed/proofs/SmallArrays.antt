@@ -8,7 +8,7 @@ use Rattle.c_types.specs.Types.{CType, CTypes, void, integer, pointer, array, fu
 use Rattle.c_typed.specs.Programs.{UnitData}
 use Rattle.c_numbers.specs.TypeNumbers.Renumbered.{all_renumbered}
 use Rattle.c_checking_units.specs.TypeLimits.Limits.{HasSmallArrays, HaveSmallArrays}
-use Rattle.c_joining.specs.Joining.{all_tags, structure_in, type_in, types, records}
+use Rattle.c_link.specs.Joining.{all_tags, structure_in, type_in, types, records}
 use Rattle.c_link.specs.Gaps.{Agree}
 use Rattle.c_link.proofs.JoinedRecords.{IsAmong, stand_among}
 use Rattle.c_link.proofs.Layouts.{lies_alike}

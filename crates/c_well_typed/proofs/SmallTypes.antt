@@ -14,7 +14,7 @@ use Rattle.c_types.specs.Layouts.{size_of, layouts}
 use Rattle.c_types.specs.Limits.{AreComplete, AreSmall, greatest_size}
 use Rattle.c_types.specs.Types.{CType, void, integer, pointer, array, function, structure, Record}
 use Rattle.c_typed.specs.Programs.{UnitData}
-use Rattle.c_joining.specs.Joining.{all_tags, structure_in, type_in, types_in, types, records}
+use Rattle.c_link.specs.Joining.{all_tags, structure_in, type_in, types_in, types, records}
 use Rattle.c_link.specs.Gaps.{Agree}
 use Rattle.c_link.proofs.JoinedRecords as Joined
 use Rattle.c_link.proofs.JoinedRecords.{stand_among}

@@ -13,7 +13,7 @@ use Rattle.c_typed.specs.Walk.{types_in, types_in_node, types_in_path, types_in_
 use Rattle.c_typed.specs.Walk.{types_in_initializer, types_in_initial, types_if_any, types_in_statement, types_in_statements, types_in_arms}
 use Rattle.c_erasure.specs.Noted.{Noted, Note, nothing, size_of, Expression, Path, Node, PathNode, unless_noted, unconverted}
 use Rattle.c_erasure.specs.Recognised.{is_note_of, is_size, as_unsigned, as_unsigned_from, counted, allocated, allocation, or_converted, is_null_constant}
-use Rattle.c_erasure.specs.Recognised.{converted, recognised, recognised_node, recognised_path, recognised_step, recognised_all}
+use Rattle.c_erasure.specs.Recognised.{converted, recognised, recognised_node, recognised_optional, recognised_path, recognised_step, recognised_all}
 use Rattle.c_erasure.specs.Units.{recognised_value, recognised_part, recognised_initializer, recognised_statement, recognised_statements, recognised_arms}
 
 module _ (P : CType → Type 0) where
@@ -334,7 +334,11 @@ module _ (P : CType → Type 0) where
       recognised_in_node t (Trees.call f all) h = recognised_of_all all h
       recognised_in_node t (Trees.call_through e all) h = (recognised_each e h.0, recognised_of_all all h.1)
       recognised_in_node t (Trees.library which all) h = recognised_of_all all h
-      recognised_in_node t (Trees.allocate r count zeroed) h = h
+      recognised_in_node t (Trees.allocate r count zeroed) h = recognised_in_count count h
+
+      recognised_in_count : (count : Trees.OptionalExpression Noted) → EachInCount count → EachInCount (recognised_optional count)
+      recognised_in_count Trees.no_expression h = h
+      recognised_in_count (Trees.some_expression e) h = recognised_each e h
 
       recognised_in_path : (p : Path) → EachInPath p → EachInPath (recognised_path p)
       recognised_in_path (Trees.path t at step) h = (recognised_in_step step h.0, h.1)

@@ -3,11 +3,13 @@
 ghost use Rattle.std.specs.Prelude.{◌≡◌, map};
 ghost use Rattle.c_numbers.specs.NewNumbers.Numbers.{renaming_of};
 ghost use Rattle.c_numbers.specs.NewNumbers.Parts.{function_in, initial_in, local_in, mention_in, object_in};
+ghost use Rattle.c_typed.specs.Mapped.{mapped_statement};
 ghost use Rattle.c_typed.specs.Programs.{data_of};
+ghost use Rattle.c_typed.specs.Views.{statement_of};
 
 use crate::new_numbers::numbers::Renumbering;
-use crate::new_numbers::statements::renumber_statement;
-use c_typed::{Function, Initial, InitialValue, Local, Mention, Object};
+use c_typed::{Function, Initial, InitialValue, Local, Mention, Object, Statement};
+use c_walks::change_statement;
 use lay_base::List;
 
 fn initial(to: &Renumbering, it: &mut Initial)
@@ -55,6 +57,15 @@ fn locals(to: &Renumbering, all: &mut List<Local>)
 {
     for it in all.as_mut_vec().iter_mut() {
         local(to, it);
+    }
+}
+
+fn renumber_statement(to: &Renumbering, s: &mut Statement)
+    ensures { statement_of s.new ≡ mapped_statement (renaming_of to.now) (statement_of s.old) }
+{
+    match change_statement(to, &mut (), s) {
+        Ok(()) => {}
+        Err(never) => match never {},
     }
 }
 

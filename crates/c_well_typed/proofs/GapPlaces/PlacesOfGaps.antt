@@ -10,7 +10,7 @@ use Rattle.c_typed.specs.declared.program.Object.{Object}
 use Rattle.c_typed.specs.Programs.{FunctionData, UnitData}
 use Rattle.c_checking_laws.specs.TextOrder.TextOrder.{TextsAreInOrder}
 use Rattle.c_numbers.specs.TypeNumbers.Renumbered.{record_in}
-use Rattle.c_joining.specs.Joining.{all_tags, all_records_in, records_in, structure_in, with_tag}
+use Rattle.c_link.specs.Joining.{all_tags, all_records_in, records_in, structure_in, with_tag}
 use Rattle.c_link.specs.Gaps.{Linked, linked_object_in, linked_function_in, linked_by, linked_in, of_name, Trouble, IsTagClash, IsNameClash, IsTwice}
 use Rattle.c_link.specs.Gaps.{Gap, tag_clash, name_clash, twice, IsGap}
 use Rattle.c_well_typed.specs.GapPlaces.Places.{IsGapIn, GapsHavePlaces}

@@ -18,8 +18,8 @@ use Rattle.c_typed.specs.Trees as Typed
 use Rattle.c_typed.specs.TypeNumbers.{type_at}
 use Rattle.c_typed.specs.Walk.{types_in_statement}
 use Rattle.c_numbers.specs.NewNumbers.Parts.{function_in, local_in}
-use Rattle.c_joining.specs.Joining.{joined, all_tags, structure_in, types, renaming, tables, numbered_from, function_identities, functions, records}
-use Rattle.c_joining.specs.Joining.{is_function_defined}
+use Rattle.c_link.specs.Joining.{joined, all_tags, structure_in, types, renaming, tables, numbered_from, function_identities, functions, records}
+use Rattle.c_link.specs.Joining.{is_function_defined}
 use Rattle.c_link.proofs.JoinedRecords.{IsAmong, among_at, stand_among}
 use Rattle.c_link.specs.Gaps.{Agree}
 use Rattle.c_well_typed.specs.Laws.{UnitsHaveTypedFunctions}

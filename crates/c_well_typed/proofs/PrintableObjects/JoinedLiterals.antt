@@ -18,10 +18,10 @@ use Rattle.c_typed.specs.Programs.{FunctionData, UnitData}
 use Rattle.c_typed.specs.References.{Reference, an_object, a_function, references_by_statement}
 use Rattle.c_typed.specs.Trees as Trees
 use Rattle.c_numbers.specs.NewNumbers.Parts.{initial_in, value_in, object_in, function_in}
-use Rattle.c_joining.specs.Joining.{joined, tables, renaming, numbered_from, own, identity, object_identities, function_identities, paired, chosen, under}
-use Rattle.c_joining.specs.Joining.{objects, functions, all_objects, all_functions, all_objects_in, all_functions_in, objects_of, functions_of}
-use Rattle.c_joining.specs.Joining.{is_object_defined, is_function_defined}
-use Rattle.c_joining.specs.Joining as Joining
+use Rattle.c_link.specs.Joining.{joined, tables, renaming, numbered_from, own, identity, object_identities, function_identities, paired, chosen, under}
+use Rattle.c_link.specs.Joining.{objects, functions, all_objects, all_functions, all_objects_in, all_functions_in, objects_of, functions_of}
+use Rattle.c_link.specs.Joining.{is_object_defined, is_function_defined}
+use Rattle.c_link.specs.Joining as Joining
 use Rattle.c_link.specs.Gaps.{HasNone, IsTwice}
 use Rattle.c_link.proofs.JoinedRecords as Joined
 use Rattle.c_link.proofs.JoinedRecords.{among_at}

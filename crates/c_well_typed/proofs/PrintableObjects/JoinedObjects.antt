@@ -20,7 +20,7 @@ use Rattle.c_typed.specs.Programs.{UnitData, ProgramData}
 use Rattle.c_typed.specs.Typed.{field_type, type_in}
 use Rattle.c_typed.specs.TypeNumbers.{type_at}
 use Rattle.c_numbers.specs.NewNumbers.Parts.{initial_in, value_in, object_in}
-use Rattle.c_joining.specs.Joining.{joined, all_tags, structure_in, numbered_from, objects, records, is_object_defined, object_identities}
+use Rattle.c_link.specs.Joining.{joined, all_tags, structure_in, numbered_from, objects, records, is_object_defined, object_identities}
 use Rattle.c_link.specs.Gaps.{Agree}
 use Rattle.c_link.proofs.JoinedRecords as Joined
 use Rattle.c_link.proofs.JoinedRecords.{among_at, stand_among}

@@ -9,7 +9,7 @@ use Rattle.c_types.specs.Types.{CType, CTypes, void, integer, pointer, array, fu
 use Rattle.c_numbers.specs.TypeNumbers.Renumbered.{renumbered, all_renumbered, field_in, record_in}
 use Rattle.c_typed.specs.Conversions.{is_scalar}
 use Rattle.c_typed.specs.Programs.{UnitData, ProgramData}
-use Rattle.c_joining.specs.Joining.{joined, all_tags, complete_tags, structure_in, type_in, types_in, records, records_in, all_records_in, with_tag}
+use Rattle.c_link.specs.Joining.{joined, all_tags, complete_tags, structure_in, type_in, types_in, records, records_in, all_records_in, with_tag}
 use Rattle.c_link.specs.Gaps.{Agree}
 use Rattle.c_link.proofs.JoinedRecords as Joined
 use Rattle.c_link.proofs.JoinedRecords.{stand_among}

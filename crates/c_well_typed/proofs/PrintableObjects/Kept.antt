@@ -3,6 +3,7 @@
 use Rattle.std.proofs.Common.{◌≡◌, ◌∙◌, ℕ, Bool, true, false, refl, sym, ap, subst, cond, List, [], ◌∷◌, ◌++◌, append-nil, inl, inr}
 use Rattle.std.specs.Prelude.{◌⊎◌, Option, Some, None}
 use Rattle.lay_base.specs.declared.place.Place.{Place}
+use Rattle.c_types.specs.declared.ty.IntKind.TheVariants.{UInt}
 use Rattle.c_types.specs.Types.{CType, CTypes, void, integer, pointer, structure, no_types, and_type}
 use Rattle.c_typed.specs.declared.operators.BinaryOp.TheVariants.{Multiply}
 use Rattle.c_typed.specs.declared.operators.CompareOp.{CompareOp}
@@ -14,16 +15,16 @@ use Rattle.c_typed.specs.Trees as Trees
 use Rattle.c_typed.specs.Conversions.{is_integer, is_pointer}
 use Rattle.c_typed.specs.Constants.{none, ty, constant_of, is_zero, is_null}
 use Rattle.c_typed.specs.Fits.{assigns, casts, meeting, ordered, compared}
-use Rattle.c_typed.specs.Mapped.{of_types, mapped_node}
+use Rattle.c_typed.specs.Mapped.{of_types, mapped_if_any, mapped_node}
 use Rattle.c_typed.specs.References.{Reference, a_function, references, references_by_node, references_by_path, references_by_step, references_by_all}
 use Rattle.c_typed.specs.References.{references_by_optional}
 use Rattle.c_typed.specs.Rules.{arithmetic, or_else, both_void, comparing, choosing}
 use Rattle.c_typed.specs.Typed.{Declared, bare, is_bare, bare_ty, IsConverted, IsSubscript, IsMoved, IsMove, IsTyped, IsTypedNode, AreArguments}
-use Rattle.c_typed.specs.Typed.{IsTypedPath, IsTypedStep}
+use Rattle.c_typed.specs.Typed.{IsCount, IsTypedPath, IsTypedStep}
 use Rattle.c_erasure.specs.Erasure.{typed}
 use Rattle.c_erasure.specs.Noted.{Noted, Expression, Path, Node, PathNode, unconverted}
 use Rattle.c_erasure.specs.Recognised.{is_note_of, is_size, counted, allocated, allocation, or_converted, is_null_constant, converted, as_unsigned}
-use Rattle.c_erasure.specs.Recognised.{recognised, recognised_node, recognised_path, recognised_step, recognised_all}
+use Rattle.c_erasure.specs.Recognised.{recognised, recognised_node, recognised_optional, recognised_path, recognised_step, recognised_all}
 use Rattle.c_well_typed.proofs.Allocations.{bare_itself}
 use Rattle.c_well_typed.proofs.Fitting.{promoting_is, on_numbers_is}
 use Rattle.c_well_typed.proofs.Monotone.{moved_number, updated_number}
@@ -283,7 +284,12 @@ module _ (d : Declared) where
         two (references (recognised e)) (references_by_all (recognised_all all)) (references e) (references_by_all all)
         (kept e h.1 (bare_settled (typed e) h.2)) (arguments_kept h.0 all h.4)
     kept_node t at (Trees.library which all) h s = arguments_kept h.0 all h.2
-    kept_node t at (Trees.allocate r n zeroed) h s = refl
+    kept_node t at (Trees.allocate r n zeroed) h s = count_kept n h.2
+
+    count_kept : (n : Trees.OptionalExpression Noted) → IsCount d (mapped_if_any (of_types (λ (t : Noted). t.ty)) n)
+        → references_by_optional (recognised_optional n) ≡ references_by_optional n
+    count_kept Trees.no_expression h = refl
+    count_kept (Trees.some_expression x) h = kept x h.0 (converted_settled (typed x) (integer UInt) h.1)
 
     arguments_kept : (parameters : CTypes) (all : Trees.Expressions Noted) → AreArguments d parameters (typed_all all)
         → references_by_all (recognised_all all) ≡ references_by_all all

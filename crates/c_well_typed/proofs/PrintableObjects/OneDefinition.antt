@@ -8,7 +8,7 @@ use Rattle.c_types.specs.Types.{void}
 use Rattle.c_numbers.specs.TypeNumbers.Renumbered.{renumbered}
 use Rattle.c_typed.specs.declared.program.Object.{Object}
 use Rattle.c_typed.specs.Programs.{FunctionData, UnitData}
-use Rattle.c_joining.specs.Joining.{all_tags, structure_in}
+use Rattle.c_link.specs.Joining.{all_tags, structure_in}
 use Rattle.c_link.specs.Gaps.{Linked, linked_object_in, linked_function_in, linked_by, linked_in, of_name, trouble, HasNone, IsTwice}
 use Rattle.c_well_typed.proofs.ProgramWeights.Numbered.{total}
 use Rattle.c_well_typed.proofs.ProgramWeights.Shares.{total_append, total_flat}

@@ -13,8 +13,8 @@ use Rattle.c_typed.specs.Programs.{FunctionData, UnitData}
 use Rattle.c_typed.specs.Trees as Typed
 use Rattle.c_numbers.specs.NewNumbers.Parts.{function_in, local_in}
 use Rattle.c_numbers.specs.TypeNumbers.Renumbered.{record_in, field_in}
-use Rattle.c_joining.specs.Joining.{joined, tables, Tables, renaming, paired, functions_of, function_identities, all_functions_in, all_records_in, records_in}
-use Rattle.c_joining.specs.Joining.{numbered_from, each_unit, all_tags, structure_in, is_function_defined, functions, records, complete_in, all_functions}
+use Rattle.c_link.specs.Joining.{joined, tables, Tables, renaming, paired, functions_of, function_identities, all_functions_in, all_records_in, records_in}
+use Rattle.c_link.specs.Joining.{numbered_from, each_unit, all_tags, structure_in, is_function_defined, functions, records, complete_in, all_functions}
 use Rattle.c_well_typed.specs.ProgramWeights.Bounds.{IsBounded, IsOfUnit, JoiningAddsNothing, JoinedAreBounded}
 use Rattle.c_well_typed.specs.ProgramWeights.Counted.{Kind, parameter, field, structure, code, frame}
 use Rattle.c_well_typed.specs.ProgramWeights.Weights.{weight_of_parameters, weight_of_locals, weight_of_body, weight_of_function, weight_of_functions}

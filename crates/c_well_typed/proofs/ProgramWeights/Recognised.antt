@@ -10,7 +10,7 @@ use Rattle.c_typed.specs.declared.operators.LibraryFunction.TheVariants.{Malloc,
 use Rattle.c_typed.specs.Trees as Trees
 use Rattle.c_erasure.specs.Noted.{Noted, Expression, Path, Node, PathNode, value, unconverted}
 use Rattle.c_erasure.specs.Recognised.{as_unsigned, as_unsigned_from, counted, is_size, is_note_of, allocated, allocation, or_converted, is_null_constant}
-use Rattle.c_erasure.specs.Recognised.{converted, recognised, recognised_node, recognised_path, recognised_step, recognised_all}
+use Rattle.c_erasure.specs.Recognised.{converted, recognised, recognised_node, recognised_optional, recognised_path, recognised_step, recognised_all}
 use Rattle.c_erasure.specs.Units.{recognised_value, recognised_part, recognised_initializer, recognised_statement, recognised_statements, recognised_arms}
 use Rattle.c_well_typed.specs.ProgramWeights.Counted.{Kind, constant, load, conversion, pointer_sum, operator, assignment, call, argument, through, to_field}
 use Rattle.c_well_typed.specs.ProgramWeights.Counted.{to_element}
@@ -132,7 +132,11 @@ module _ (n : Kind → ℕ) where
       less_node t (Trees.call f all) = less_one (n call) (less_all all)
       less_node t (Trees.call_through e all) = less_two (n call) (less e) (less_all all)
       less_node t (Trees.library which all) = less_one (n call) (less_all all)
-      less_node t (Trees.allocate r count zeroed) = omega arith
+      less_node t (Trees.allocate r count zeroed) = less_one (n call) (less_count count)
+
+      less_count : (count : Trees.OptionalExpression Noted) → weight_of_count n (recognised_optional count) ≤ weight_of_count n count
+      less_count Trees.no_expression = omega arith
+      less_count (Trees.some_expression e) = less_one (n argument) (less e)
 
       pub less_path : (p : Path) → weight_of_path n (recognised_path p) ≤ weight_of_path n p
       less_path (Trees.path t at step) = less_step step

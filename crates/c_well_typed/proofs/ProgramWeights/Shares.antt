@@ -7,7 +7,7 @@ use Rattle.std.specs.List.{AllByRecursion}
 use Rattle.std.proofs.lemmas.Slice.Eq.{bytes_eq-Decides}
 use Rattle.c_numbers.specs.KeyNumbers.Keys.{is_among, new_keys}
 use Rattle.c_types.specs.Types.{Record}
-use Rattle.c_joining.specs.Joining.{under, chosen_among, or_first, chosen, if_any, with_tag}
+use Rattle.c_link.specs.Joining.{under, chosen_among, or_first, chosen, if_any, with_tag}
 use Rattle.c_well_typed.proofs.ProgramWeights.Numbered.{total}
 
 abbrev pub Key : Type 0

@@ -6,7 +6,7 @@ use Rattle.c_ast.specs.Sizes.{size_items}
 use Rattle.c_ast.specs.TreesOfFiles.{IsTreeOf}
 use Rattle.c_typed.specs.Programs.{FunctionData, UnitData, ProgramData}
 use Rattle.c_erasure.specs.Erasing.{ErasesTo}
-use Rattle.c_joining.specs.Joining.{joined}
+use Rattle.c_link.specs.Joining.{joined}
 use Rattle.c_link.specs.Programs.{IsProgramOf}
 use Rattle.c_well_typed.specs.ProgramWeights.Counted.{Kind}
 use Rattle.c_well_typed.specs.ProgramWeights.Weights.{code_weight_of_unit, code_weight_of_units, code_weight_of_program, frame_weight, weight_of_function}

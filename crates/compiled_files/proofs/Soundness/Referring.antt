@@ -4,7 +4,7 @@ use Rattle.std.proofs.Common.{slice_get, arith, inl, inr, if◌then◌else◌}
 use Rattle.std.proofs.lemmas.Bool.{eq-eqb, or_left, or_right, true_from_ne_false}
 use Rattle.std.specs.List.{AllByRecursion as Each, list_any}
 use Rattle.std.specs.Prelude.{is_some}
-use Rattle.c_joining.specs.Joining.{if_any}
+use Rattle.c_link.specs.Joining.{if_any}
 use Rattle.c_link.specs.Gaps.{Trouble, HasNone, IsIn, IsMissing, all_references, is_function, is_object, missing_function, missing_functions}
 use Rattle.c_link.specs.Gaps.{missing_object, missing_objects, referred_by_value}
 use Rattle.c_typed.specs.Programs.{FunctionData, ProgramData}

@@ -6,7 +6,7 @@ use Rattle.lay_base.specs.declared.place.File.{File}
 use Rattle.lay_base.specs.declared.faults.LimitKind.{LimitKind}
 use Rattle.lay_base.specs.declared.faults.LimitKind.TheVariants as L
 use Rattle.c_typed.specs.Programs.{ProgramData}
-use Rattle.c_joining.specs.Joining.{joined}
+use Rattle.c_link.specs.Joining.{joined}
 use Rattle.c_link.specs.Gaps.{first_limit, limits, or_limit, past}
 use Rattle.c_link.specs.declared.gap.Gap.TheVariants as G
 use Rattle.lay_compile.specs.declared.fault.CompileFault.{CompileFault}

@@ -4,7 +4,7 @@ use Rattle.c_types.specs.Views.{records_of}
 use Rattle.std.specs.Prelude.{flat_map}
 use Rattle.c_link.specs.Clashes.{clashes}
 use Rattle.c_link.specs.Earliest.{earliest_of}
-use Rattle.c_joining.specs.Joining.{records_in}
+use Rattle.c_link.specs.Joining.{records_in}
 use Rattle.c_link.proofs.TagClashes.{clash_or_none}
 use Rattle.c_link.proofs.clashes.tag_clash.Goals as goal
 

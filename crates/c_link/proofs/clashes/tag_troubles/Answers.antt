@@ -6,7 +6,7 @@ use Rattle.c_types.specs.declared.record.Record.{Record}
 use Rattle.c_types.specs.Types as Types
 use Rattle.c_types.specs.Views.{record_of, records_of}
 use Rattle.c_numbers.specs.KeyNumbers.Keys.{position}
-use Rattle.c_joining.proofs.RecordLists.{never}
+use Rattle.c_link.proofs.RecordLists.{never}
 use Rattle.c_link.specs.Clashes.{clashes, differing, trouble_of}
 use Rattle.c_link.proofs.LookUps.{found_is, looked_up}
 use Rattle.c_link.proofs.Repeats.{one_more_told}

@@ -1,6 +1,6 @@
 use Rattle.std.proofs.Common.{◌≡◌, ◌++◌, drop, map}
 use Rattle.std.specs.Prelude.{flat_map}
-use Rattle.c_joining.specs.Joining.{if_any}
+use Rattle.c_link.specs.Joining.{if_any}
 use Rattle.c_link.specs.Gaps.{types_of_function}
 use Rattle.c_typed.specs.Programs.{data_of}
 use Rattle.c_typed.specs.References.{references_by_statement}

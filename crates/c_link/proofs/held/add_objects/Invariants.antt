@@ -1,7 +1,7 @@
 use Rattle.std.proofs.Common.{◌≡◌, ◌++◌, drop, map}
 use Rattle.std.specs.Prelude.{flat_map}
 use Rattle.c_walks.specs.NodeTypes.{reference_of}
-use Rattle.c_joining.specs.Joining.{if_any}
+use Rattle.c_link.specs.Joining.{if_any}
 use Rattle.c_link.specs.Gaps.{referred_by_value}
 use Rattle.c_link.proofs.held.add_objects.Given as goal
 

@@ -1,6 +1,6 @@
 use Rattle.std.proofs.Common.{◌≡◌, ◌++◌, drop, map}
 use Rattle.c_typed.specs.Programs.{data_of}
-use Rattle.c_joining.specs.Joining.{function_identities}
+use Rattle.c_link.specs.Joining.{function_identities}
 use Rattle.c_link.proofs.identities.function_keys.Given as goal
 
 abbrev pub invariant-loop-n : goal.invariant-loop-n

@@ -1,7 +1,7 @@
 use Rattle.std.proofs.Common.{◌≡◌, ◌∙◌, [], ap, map}
 use Rattle.std.proofs.lemmas.List.{take_all}
 use Rattle.c_numbers.specs.KeyNumbers.Keys.{position}
-use Rattle.c_joining.proofs.NumberLists.{numbers_are}
+use Rattle.c_link.proofs.NumberLists.{numbers_are}
 use Rattle.c_link.proofs.identities.numbers_of.Goals as goal
 
 pub returns : goal.returns

@@ -1,5 +1,5 @@
 use Rattle.std.proofs.Common.{◌≡◌, ◌++◌, drop, map}
-use Rattle.c_joining.specs.Joining.{object_identities}
+use Rattle.c_link.specs.Joining.{object_identities}
 use Rattle.c_link.proofs.identities.object_keys.Given as goal
 
 abbrev pub invariant-loop-n : goal.invariant-loop-n

@@ -3,9 +3,9 @@ use Rattle.std.proofs.lemmas.List.{length_push, length-map, map-append}
 use Rattle.c_numbers.specs.NewNumbers.Numbers.{renaming_of}
 use Rattle.c_numbers.specs.NewNumbers.Parts.{function_in}
 use Rattle.c_typed.specs.Programs.{data_of}
-use Rattle.c_joining.specs.Joining.{is_function_defined}
-use Rattle.c_joining.specs.Placing.{place, placed_by}
-use Rattle.c_joining.proofs.Pairs.{one_more}
+use Rattle.c_link.specs.Joining.{is_function_defined}
+use Rattle.c_link.specs.Placing.{place, placed_by}
+use Rattle.c_link.proofs.Pairs.{one_more}
 use Rattle.c_link.proofs.joining.join_functions.Goals as goal
 
 pub loop-f-preserved : goal.loop-f-preserved

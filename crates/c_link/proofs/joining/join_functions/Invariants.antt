@@ -2,8 +2,8 @@ use Rattle.std.proofs.Common.{◌≡◌, length, map}
 use Rattle.c_numbers.specs.NewNumbers.Numbers.{renaming_of}
 use Rattle.c_numbers.specs.NewNumbers.Parts.{function_in}
 use Rattle.c_typed.specs.Programs.{data_of}
-use Rattle.c_joining.specs.Joining.{is_function_defined}
-use Rattle.c_joining.specs.Placing.{placed_by}
+use Rattle.c_link.specs.Joining.{is_function_defined}
+use Rattle.c_link.specs.Placing.{placed_by}
 use Rattle.c_link.proofs.joining.join_functions.Given as goal
 
 abbrev pub invariant-loop-f : goal.invariant-loop-f

@@ -1,8 +1,8 @@
 use Rattle.std.proofs.Common.{◌≡◌, length, map}
 use Rattle.c_numbers.specs.NewNumbers.Numbers.{renaming_of}
 use Rattle.c_numbers.specs.NewNumbers.Parts.{object_in}
-use Rattle.c_joining.specs.Joining.{is_object_defined}
-use Rattle.c_joining.specs.Placing.{placed_by}
+use Rattle.c_link.specs.Joining.{is_object_defined}
+use Rattle.c_link.specs.Placing.{placed_by}
 use Rattle.c_link.proofs.joining.join_objects.Given as goal
 
 abbrev pub invariant-loop-o : goal.invariant-loop-o

@@ -3,11 +3,11 @@ use Rattle.c_numbers.specs.NewNumbers.Numbers.{renaming_of}
 use Rattle.c_numbers.specs.NewNumbers.Parts.{function_in, mention_in, object_in}
 use Rattle.c_typed.specs.Programs.{data_of, unit_data}
 use Rattle.c_typed.specs.declared.program.Mention.{Mention}
-use Rattle.c_joining.specs.Joining.{is_function_defined, is_object_defined}
-use Rattle.c_joining.specs.Placing.{placed_by}
+use Rattle.c_link.specs.Joining.{is_function_defined, is_object_defined}
+use Rattle.c_link.specs.Placing.{placed_by}
 use Rattle.c_link.specs.Views.{joined_of, tables_of}
-use Rattle.c_joining.proofs.Pairs.{unit_joined}
-use Rattle.c_joining.proofs.Placed.{on_ok}
+use Rattle.c_link.proofs.Pairs.{unit_joined}
+use Rattle.c_link.proofs.Placed.{on_ok}
 use Rattle.c_link.proofs.joining.join_unit.Goals as goal
 
 pub returns-clause-joined : goal.returns-clause-joined

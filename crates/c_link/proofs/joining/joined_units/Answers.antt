@@ -1,10 +1,10 @@
 use Rattle.std.proofs.Common.{◌≡◌, ◌≤◌, ◌+◌, ◌*◌, ◌^◌, ◌∙◌, [], ◌∷◌, fold, length, map, ap, sym, arith, rules}
 use Rattle.std.proofs.lemmas.List.{length_push, length-map, map-append}
 use Rattle.c_typed.specs.Programs.{unit_data}
-use Rattle.c_joining.specs.Joining.{numbered_from}
-use Rattle.c_joining.specs.Views.{nothing, with_unit}
+use Rattle.c_link.specs.Joining.{numbered_from}
+use Rattle.c_link.specs.JoinedViews.{nothing, with_unit}
 use Rattle.c_link.specs.Views.{joined_of, tables_of}
-use Rattle.c_joining.proofs.Pairs.{joined_one_more}
+use Rattle.c_link.proofs.Pairs.{joined_one_more}
 use Rattle.c_link.proofs.joining.joined_units.Goals as goal
 
 pub loop-u-preserved : goal.loop-u-preserved

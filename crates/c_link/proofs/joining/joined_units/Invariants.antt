@@ -1,7 +1,7 @@
 use Rattle.std.proofs.Common.{◌≡◌, ◌≤◌, ◌*◌, ◌^◌, fold, length, map}
 use Rattle.c_typed.specs.Programs.{unit_data}
-use Rattle.c_joining.specs.Joining.{numbered_from}
-use Rattle.c_joining.specs.Views.{nothing, with_unit}
+use Rattle.c_link.specs.Joining.{numbered_from}
+use Rattle.c_link.specs.JoinedViews.{nothing, with_unit}
 use Rattle.c_link.specs.Views.{joined_of, tables_of}
 use Rattle.c_link.proofs.joining.joined_units.Given as goal
 

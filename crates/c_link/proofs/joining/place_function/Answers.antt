@@ -1,7 +1,7 @@
 use Rattle.std.proofs.Common.{◌∙◌, ap}
-use Rattle.c_joining.specs.Joining.{is_function_defined}
-use Rattle.c_joining.specs.Placing.{replaces}
-use Rattle.c_joining.proofs.Placed.{on_ok, placed_mapped}
+use Rattle.c_link.specs.Joining.{is_function_defined}
+use Rattle.c_link.specs.Placing.{replaces}
+use Rattle.c_link.proofs.Placed.{on_ok, placed_mapped}
 use Rattle.c_typed.specs.Programs.{data_of}
 use Rattle.c_link.proofs.joining.place_function.Goals as goal
 

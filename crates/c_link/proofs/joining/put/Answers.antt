@@ -1,5 +1,5 @@
 use Rattle.std.proofs.Common.{◌≡◌, ◌≤◌, ◌<◌, ◌∙◌, length, true, false, rules}
-use Rattle.c_joining.proofs.Placed.{on_ok, past, replaced, stays}
+use Rattle.c_link.proofs.Placed.{on_ok, past, replaced, stays}
 use Rattle.c_link.proofs.joining.put.Goals as goal
 
 pub returns-then-number-len : goal.returns-then-number-len

@@ -1,5 +1,5 @@
 use Rattle.std.proofs.Common.{◌≡◌, List, All, map, subst, sym, rules}
-use Rattle.c_joining.specs.Joining.{joined}
+use Rattle.c_link.specs.Joining.{joined}
 use Rattle.c_typed.specs.declared.program.Unit.{Unit}
 use Rattle.c_typed.specs.Programs.{UnitData, program_data, unit_data}
 use Rattle.c_types.specs.Limits.{AreSmall}

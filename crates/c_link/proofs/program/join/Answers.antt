@@ -2,12 +2,12 @@ use Rattle.std.proofs.Common.{◌≡◌, ◌∙◌, ℕ, List, [], true, ap, fol
 use Rattle.std.specs.Prelude.{codes, flat_map}
 use Rattle.c_typed.specs.Programs.{ProgramData, unit_data}
 use Rattle.c_numbers.specs.KeyNumbers.Keys.{position}
-use Rattle.c_joining.specs.Joining.{Tables, named, numbered_from, records_in, tables}
-use Rattle.c_joining.specs.Placing.{placed}
-use Rattle.c_joining.specs.Records.{AreWhole}
-use Rattle.c_joining.specs.Views.{assembled, nothing, tagged, with_unit}
+use Rattle.c_link.specs.Joining.{Tables, named, numbered_from, records_in, tables}
+use Rattle.c_link.specs.Placing.{placed}
+use Rattle.c_link.specs.JoinedRecords.{AreWhole}
+use Rattle.c_link.specs.JoinedViews.{assembled, nothing, tagged, with_unit}
 use Rattle.c_link.specs.Views.{joined_of, tables_of}
-use Rattle.c_joining.proofs.Whole.{assembled_is, records_are}
+use Rattle.c_link.proofs.Whole.{assembled_is, records_are}
 use Rattle.c_link.proofs.program.join.Goals as goal
 
 pub returns : goal.returns

@@ -1,5 +1,5 @@
 use Rattle.std.proofs.Common.{◌≡◌, ◌≤◌, ◌<◌, ◌++◌, ◌∷◌, [], ◌∙◌, false, length, rules}
-use Rattle.c_joining.proofs.Placed.{past, stays}
+use Rattle.c_link.proofs.Placed.{past, stays}
 use Rattle.c_link.proofs.program.join_record.Goals as goal
 
 pub returns-then-number-len : goal.returns-then-number-len

@@ -4,8 +4,8 @@ use Rattle.std.proofs.lemmas.Iterator.Consumers.{YieldsList-end, YieldsList-turn
 use Rattle.std.proofs.lemmas.List.{drop_all, length_push}
 use Rattle.c_types.specs.Views.{records_of}
 use Rattle.c_numbers.specs.KeyNumbers.Keys.{position}
-use Rattle.c_joining.specs.Placing.{put}
-use Rattle.c_joining.proofs.NextRecords.{counted, from, next_can_follow, next_records}
+use Rattle.c_link.specs.Placing.{put}
+use Rattle.c_link.proofs.NextRecords.{counted, from, next_can_follow, next_records}
 use Rattle.c_link.proofs.program.joined_records.Goals as goal
 
 pub join_record-requires : goal.join_record-requires

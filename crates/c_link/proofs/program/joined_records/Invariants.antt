@@ -1,7 +1,7 @@
 use Rattle.std.proofs.Common.{◌≡◌, [], drop, length, map, true}
 use Rattle.c_types.specs.Views.{records_of}
-use Rattle.c_joining.specs.Placing.{placed}
-use Rattle.c_joining.specs.Views.{tagged}
+use Rattle.c_link.specs.Placing.{placed}
+use Rattle.c_link.specs.JoinedViews.{tagged}
 use Rattle.c_link.proofs.program.joined_records.Given as goal
 
 abbrev pub invariant-loop-r : goal.invariant-loop-r

@@ -1,7 +1,7 @@
 use Rattle.std.proofs.Common.{◌∙◌, ap, fold, map, sym}
 use Rattle.std.proofs.lemmas.List.{drop_all}
 use Rattle.c_typed.specs.Programs.{unit_data}
-use Rattle.c_joining.specs.Joining.{numbered_from}
+use Rattle.c_link.specs.Joining.{numbered_from}
 use Rattle.c_link.specs.Views.{tables_of, with_unit_in}
 use Rattle.c_link.proofs.TablesOfUnits.{all_tables}
 use Rattle.c_link.proofs.tables.program_tables.Goals as goal

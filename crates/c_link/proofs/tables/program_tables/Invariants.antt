@@ -1,6 +1,6 @@
 use Rattle.std.proofs.Common.{◌≡◌, drop, fold, map}
 use Rattle.c_typed.specs.Programs.{unit_data}
-use Rattle.c_joining.specs.Joining.{numbered_from}
+use Rattle.c_link.specs.Joining.{numbered_from}
 use Rattle.c_link.specs.Views.{no_tables, tables_of, with_unit_in}
 use Rattle.c_link.proofs.tables.program_tables.Given as goal
 

@@ -7,7 +7,7 @@ use Rattle.c_numbers.specs.TypeNumbers.Renumbered.{renumbered}
 use Rattle.c_typed.specs.Programs.{unit_data}
 use Rattle.c_types.specs.Types.{CType, void}
 use Rattle.c_types.specs.Views.{type_of}
-use Rattle.c_joining.specs.Joining.{function_identities, object_identities}
+use Rattle.c_link.specs.Joining.{function_identities, object_identities}
 use Rattle.c_link.specs.Views.{tables_of}
 use Rattle.c_link.proofs.tables.renumbering.Goals as goal
 

@@ -4,7 +4,7 @@ use Rattle.std.proofs.lemmas.List.{drop_all}
 use Rattle.c_typed.specs.Programs.{unit_data}
 use Rattle.c_numbers.specs.KeyNumbers.Keys.{with_key}
 use Rattle.c_numbers.proofs.KeyNumbers.Laws.{all_after, all_new}
-use Rattle.c_joining.specs.Joining.{complete_in, complete_tags}
+use Rattle.c_link.specs.Joining.{complete_in, complete_tags}
 use Rattle.c_link.proofs.tags.all_tags.Goals as goal
 
 pub loop-u-2-init : goal.loop-u-2-init

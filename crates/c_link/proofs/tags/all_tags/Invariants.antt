@@ -2,7 +2,7 @@ use Rattle.std.proofs.Common.{◌≡◌, [], drop, fold, map}
 use Rattle.std.specs.Prelude.{flat_map}
 use Rattle.c_numbers.specs.KeyNumbers.Keys.{with_key}
 use Rattle.c_typed.specs.Programs.{unit_data}
-use Rattle.c_joining.specs.Joining.{complete_in, complete_tags}
+use Rattle.c_link.specs.Joining.{complete_in, complete_tags}
 use Rattle.c_link.proofs.tags.all_tags.Given as goal
 
 abbrev pub invariant-loop-u : goal.invariant-loop-u

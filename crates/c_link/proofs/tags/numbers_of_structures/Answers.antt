@@ -3,8 +3,8 @@ use Rattle.std.proofs.lemmas.List.{drop_all, map-append}
 use Rattle.c_typed.specs.Programs.{unit_data}
 use Rattle.c_numbers.specs.KeyNumbers.Keys.{position}
 use Rattle.c_types.specs.Views.{records_of}
-use Rattle.c_joining.specs.Joining.{complete_in, tags_of_unit}
-use Rattle.c_joining.proofs.NumberLists.{numbers_are}
+use Rattle.c_link.specs.Joining.{complete_in, tags_of_unit}
+use Rattle.c_link.proofs.NumberLists.{numbers_are}
 use Rattle.c_link.proofs.tags.numbers_of_structures.Goals as goal
 
 pub returns : goal.returns

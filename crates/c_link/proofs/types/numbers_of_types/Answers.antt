@@ -6,7 +6,7 @@ use Rattle.c_numbers.specs.TypeNumbers.Renumbered.{renumbered}
 use Rattle.c_types.specs.declared.ty.Ty.TheVariants as T
 use Rattle.c_types.specs.Types.{CType, void}
 use Rattle.c_types.specs.Views.{type_of}
-use Rattle.c_joining.proofs.NumberLists.{numbers_are, void_is}
+use Rattle.c_link.proofs.NumberLists.{numbers_are, void_is}
 use Rattle.c_link.proofs.types.numbers_of_types.Goals as goal
 
 pub returns : goal.returns

@@ -1,7 +1,7 @@
 use Rattle.std.proofs.Common.{◌≡◌, ◌<◌, length, map, rules}
 use Rattle.std.proofs.lemmas.List.{length-map}
 use Rattle.c_annotated.specs.FileViews.{object_of}
-use Rattle.c_recognised.proofs.Lists.{one_more}
+use Rattle.c_walks.proofs.ChangedLists.{one_more}
 use Rattle.c_units.specs.RecognisedParts.{recognised_object}
 use Rattle.c_units.proofs.objects.recognise_objects.Goals as goal
 

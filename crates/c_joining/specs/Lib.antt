@@ -1,4 +1,0 @@
-pub mod Joining
-pub mod Placing
-pub mod Records
-pub mod Views
