@@ -7,8 +7,7 @@ ghost use Rattle.c_types.specs.Views.{type_of};
 ghost use Rattle.c_erasure.specs.Broken.{ill_typed, misplaced as misplaced_in};
 ghost use Rattle.c_erasure.specs.Noted.{a_value, an_object, is_copy, value_of};
 ghost use Rattle.c_erasure.specs.Checking.Nodes.{a_node, a_way, converted, worth as worth_of};
-ghost use Rattle.c_annotated.specs.Views.{node_of, path_node_of};
-ghost use Rattle.c_annotated.specs.Views.{expression_of, path_of, thing_of};
+ghost use Rattle.c_annotated.specs.Views.{expression_of, node_of, path_node_of, path_of, thing_of};
 ghost use Rattle.c_nodes.specs.Gives.{Gives};
 
 use crate::fault::Fault;

@@ -6,8 +6,7 @@ use Rattle.c_ast.specs.Trees
 use Rattle.c_typed.specs.Trees.{no_statements}
 use Rattle.c_ast.specs.Views.{declaration_of, block_item_of, block_items_of, switch_item_of, switch_items_of}
 use Rattle.c_erasure.specs.BrokenStatements.{no_labels}
-use Rattle.c_annotated.specs.Views.{arm_of}
-use Rattle.c_annotated.specs.Views.{arms_of}
+use Rattle.c_annotated.specs.Views.{arm_of, arms_of}
 use Rattle.c_erasure.specs.Checking.Answers.{◌>>=◌}
 use Rattle.c_erasure.specs.Checking.Statements.{items_in, switch_item, switch_items}
 use Rattle.c_check_parts.proofs.InitializerParts.Turns.{fails_along, fails_on}

@@ -1,7 +1,6 @@
 use Rattle.std.proofs.Common.{◌≡◌, ◌++◌, map, drop}
 use Rattle.c_typed.specs.TypedStatements.{declared_by_arms}
-use Rattle.c_annotated.specs.Views.{arm_of}
-use Rattle.c_annotated.specs.Views.{arms_of}
+use Rattle.c_annotated.specs.Views.{arm_of, arms_of}
 use Rattle.c_check_statements.proofs.statement_parts.making.declared_by_arms.Given as goal
 
 abbrev pub invariant-loop-arm : goal.invariant-loop-arm
