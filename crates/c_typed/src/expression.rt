@@ -6,7 +6,8 @@ use lay_base::{Boxed, List, Place};
 /// A type's place in the list of types of its program.
 pub type TypeId = usize;
 
-/// An expression that has a value, or none where its type is `void`. Its place is that of the first token of its text.
+/// An expression that has a value, or none where its type is `void`. `T` stands for a type: in a program it is the type's number. The place
+/// is that of the first token of the expression's text.
 #[cycle(typed)]
 #[derive(Drop)]
 pub struct Expression<T = TypeId> {
@@ -72,7 +73,7 @@ pub struct Path<T = TypeId> {
 pub enum PathNode<T = TypeId> {
     /// A local of the function, by its number; parameters come first.
     Named(usize),
-    /// An object of the program, by its number.
+    /// An object of the program, or of its file, by its number.
     Object(usize),
     /// What a pointer points to.
     Deref(Boxed<Expression<T>>),

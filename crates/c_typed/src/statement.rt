@@ -39,7 +39,7 @@ pub struct Arm<T = TypeId> {
     pub statements: List<Statement<T>>,
 }
 
-/// What a local holds at first.
+/// What a local, or an object of a file, holds at first.
 #[derive(Drop)]
 pub enum Initializer<T = TypeId> {
     /// The value of a number or a pointer.
