@@ -14,10 +14,10 @@ store_moves segments s put a x n memory whole mapped same =
     let e : eqb (a % n) 0 ≡ true = eq-eqb (a % n) 0 whole in
     rw (e, ← mapped) (ap (λ (m : Content). Goes (record s { memory = m; pc = next_pc s })) (sym same))
 
--- a read of the environment that was answered
-pub read_goes : (places : List Segment) (registers : List ℕ) (pc : ℕ) (content content1 : Content) (input : List ℕ) (n : ℕ)
-    → are_mapped places writable (slice_index registers 11) (slice_index registers 12) ≡ true
-    → ReadsKnown input (Some (drop n input)) content content1 (slice_index registers 11) (slice_index registers 12) n → (output : List ℕ)
+-- a read of the environment that was answered, of so many bytes to an address
+pub read_goes : (places : List Segment) (registers : List ℕ) (pc : ℕ) (content content1 : Content) (input : List ℕ) (n address count : ℕ)
+    → address ≡ slice_index registers 11 → count ≡ slice_index registers 12 → are_mapped places writable address count ≡ true
+    → ReadsKnown input (Some (drop n input)) content content1 address count n → (output : List ℕ)
     → read_call places (record { registers = registers; pc = pc; memory = content; input = input; output = output })
     ≡ Goes (record {
       registers = slice_set registers 10 n;
@@ -26,9 +26,9 @@ pub read_goes : (places : List Segment) (registers : List ℕ) (pc : ℕ) (conte
       input = drop n input;
       output = output ++ [];
     })
-read_goes places registers pc content content1 input n mapped known output =
+read_goes places registers pc content content1 input n address count at counted mapped known output =
     let e : output ++ [] ≡ output = append-nil output in
-    rw (mapped, e, ← known.number) (ap (λ (m : Content). Goes (record {
+    rw (← at, ← counted, mapped, e, ← known.number) (ap (λ (m : Content). Goes (record {
       registers = slice_set registers 10 n;
       pc = (pc + 4) % 2 ^ 32;
       memory = m;

@@ -10,3 +10,4 @@ pub mod Unwritten
 pub mod Standing
 pub mod Reaching
 pub mod Ending
+pub mod FirstRegister

@@ -12,7 +12,7 @@ use Rattle.rv_machine.specs.declared.hart.Moved.TheVariants as M
 use Rattle.rv_machine.specs.declared.hart.Hart.{Hart}
 use Rattle.rv_machine.specs.declared.decoder.Decoder.{Decoder}
 use Rattle.rv_machine.specs.View.{content_of, if_mapped}
-use Rattle.rv_machine.specs.Harts.{Executes, Performs, places_of, state_of}
+use Rattle.rv_machine.specs.Harts.{Executes, Performs, places_of, state_at, state_of}
 use Rattle.rv_machine.proofs.Places.{some_if, none_if}
 use Rattle.rv_machine.specs.Keeping.{IsReady, Keeps}
 use Rattle.rv_machine.specs.Stepping.{with_streams, StepGives}
@@ -139,10 +139,10 @@ module _ (hart : Hart) where
       illegal_gives (places_of hart) (state_of hart) (state_of hart) w f.0 f.1 (sym read) refl
 
 -- an instruction that is executed where it is ready, in a hart that is as it was before
-pub code_gives : (old here : Hart) (decoder : Decoder) (new : State) (i : Inst) (moved : Moved) → places_of here ≡ places_of old
-    → state_of here ≡ state_of old → IsReady here decoder → ((w : ℕ) → Keeps decoder here.pc w → decoded w ≡ Some i)
-    → Performs (places_of here) (state_of here) new i moved → StepGives (places_of old) (state_of old) new moved
-code_gives old here decoder new i moved places state ready read h =
-    subst (λ (p : List Segment). StepGives p (state_of old) new moved) places
+pub code_gives : (old here : Hart) (pc : ℕ) (decoder : Decoder) (new : State) (i : Inst) (moved : Moved) → places_of here ≡ places_of old
+    → state_at here pc ≡ state_at old pc → IsReady here.memory decoder pc → ((w : ℕ) → Keeps decoder pc w → decoded w ≡ Some i)
+    → Performs (places_of here) (state_at here pc) new i moved → StepGives (places_of old) (state_at old pc) new moved
+code_gives old here pc decoder new i moved places state ready read h =
+    subst (λ (p : List Segment). StepGives p (state_at old pc) new moved) places
     (subst (λ (s : State). StepGives (places_of here) s new moved) state
-    (performed_gives (places_of here) (state_of here) new (word_at (content_of here.memory) here.pc) i moved ready.mapped refl (read _ ready.kept) h))
+    (performed_gives (places_of here) (state_at here pc) new (word_at (content_of here.memory) pc) i moved ready.mapped refl (read _ ready.kept) h))

@@ -5,7 +5,7 @@ use Rattle.rv_isa.specs.declared.instruction.Inst.{Inst}
 use Rattle.rv_isa.specs.declared.instruction.Inst.TheVariants.{Ecall}
 use Rattle.rv_isa.specs.Encoding.{row}
 use Rattle.rv_isa.specs.Memory.{is_mapped, writable}
-use Rattle.rv_isa.specs.Step.{State, Stepped, Goes, Ends, Exits, Trap, Break, executed, next_pc}
+use Rattle.rv_isa.specs.Step.{State, Stepped, Goes, Ends, Exits, Trap, Break, executed, next_pc, writes}
 use Rattle.rv_machine.specs.declared.hart.Hart.{Hart}
 use Rattle.rv_machine.specs.declared.hart.Moved.{Moved}
 use Rattle.rv_machine.specs.declared.hart.Moved.TheVariants as M
@@ -15,9 +15,15 @@ use Rattle.rv_machine.specs.View.{segments_in, content_of}
 abbrev pub places_of : Hart → List Segment
 places_of hart = segments_in hart.memory
 
--- the state of the machine, with no input and no output
+-- the state of the machine at a program counter, with no input and no output
+abbrev pub state_at : Hart → (pc : ℕ) → State
+state_at hart pc = record { registers = hart.registers; pc = pc; memory = content_of hart.memory; input = []; output = [] }
+
 abbrev pub state_of : Hart → State
-state_of hart = record { registers = hart.registers; pc = hart.pc; memory = content_of hart.memory; input = []; output = [] }
+state_of hart = state_at hart hart.pc
+
+abbrev pub with_pc : Hart → (pc : ℕ) → Hart
+with_pc hart pc = record hart { pc = pc }
 
 -- where memory may not be written it is as it was
 abbrev pub LeavesUnwritten : (old new : Hart) → Type 0
@@ -35,9 +41,14 @@ Executes old new stepped (M.Traps kind) = (stepped ≡ Ends (Trap kind old.pc)) 
 Executes old new stepped M.Breaks = (stepped ≡ Ends (Break old.pc)) × (new ≡ old)
 Executes old new stepped M.Calls = ⊥
 
--- an instruction that calls nothing, on a hart
-abbrev pub Does : (old new : Hart) → Inst → Moved → Type 0
-Does old new i moved = Executes (state_of old) (state_of new) (executed (places_of old) (state_of old) i) moved
+-- an instruction that calls nothing
+abbrev pub Does : List Segment → (old new : State) → Inst → Moved → Type 0
+Does segments old new i moved = Executes old new (executed segments old i) moved
+
+-- an instruction gives a register a word, by the registers alone
+abbrev pub Computes : (registers : List ℕ) → Inst → (rd word : ℕ) → Type 0
+Computes registers i rd word = (segments : List Segment) (s : State)
+    → executed segments (record s { registers = registers }) i ≡ writes (record s { registers = registers }) rd word
 
 -- the opcode of an instruction's word
 abbrev pub HasOpcode : ℕ → Inst → Type 0

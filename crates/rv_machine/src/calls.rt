@@ -6,13 +6,13 @@ use crate::memory::{READ, WRITE};
 use lay_base::{Sink, Source, TrapKind};
 
 /// The registers of a call: its arguments, of which the first takes the answer, and its number.
-const A0: usize = 10;
+const A0: u8 = 10;
 
-const A1: usize = 11;
+const A1: u8 = 11;
 
-const A2: usize = 12;
+const A2: u8 = 12;
 
-const A7: usize = 17;
+const A7: u8 = 17;
 
 impl Hart {
     ghost use Rattle.std.specs.Prelude.{◌≡◌, Some};
@@ -34,13 +34,13 @@ impl Hart {
             (streams (I.left input.now) (I.faults input.now) (O.written out.new) (O.faults out.new)) result }
     {
         let _ = input;
-        let count = self.registers[A2];
-        if !self.memory.may_use(READ, self.registers[A1], count) {
+        let count = self.registers.get(A2);
+        if !self.memory.may_use(READ, self.registers.get(A1), count) {
             return Advance::Traps(TrapKind::Unmapped);
         }
-        match self.memory.write_out(out, self.registers[A1], count) {
+        match self.memory.write_out(out, self.registers.get(A1), count) {
             Ok(()) => {
-                self.registers[A0] = count;
+                self.registers.put(A0, count);
                 self.pc = self.pc.wrapping_add(4);
                 Advance::Goes
             }
@@ -59,14 +59,14 @@ impl Hart {
             (streams (I.left input.new) (I.faults input.new) (O.written out.now) (O.faults out.now)) result }
     {
         let _ = out;
-        let address = self.registers[A1];
-        let count = self.registers[A2];
+        let address = self.registers.get(A1);
+        let count = self.registers.get(A2);
         if !self.memory.may_use(WRITE, address, count) {
             return Advance::Traps(TrapKind::Unmapped);
         }
         match self.memory.read_in(input, address, count) {
             Ok(n) => {
-                self.registers[A0] = n;
+                self.registers.put(A0, n);
                 self.pc = self.pc.wrapping_add(4);
                 Advance::Goes
             }
@@ -83,8 +83,8 @@ impl Hart {
             (streams (I.left input.old) (I.faults input.old) (O.written out.old) (O.faults out.old))
             (streams (I.left input.new) (I.faults input.new) (O.written out.new) (O.faults out.new)) result }
     {
-        let descriptor = self.registers[A0];
-        match self.registers[A7] {
+        let descriptor = self.registers.get(A0);
+        match self.registers.get(A7) {
             93 => Advance::Exits((descriptor % 256) as u8),
             64 if descriptor == 1 => self.write_bytes(input, out),
             63 if descriptor == 0 => self.read_bytes(input, out),

@@ -8,14 +8,14 @@ use rv_isa::{Inst, decode};
 use std::alloc::Global;
 
 /// How many words are kept.
-const ENTRIES: usize = 65536;
+const ENTRIES: u32 = 65536;
 
 /// The place of the entry for an address.
 #[inline(always)]
 fn place_of(pc: u32) -> usize
     ensures { result ≡ pc / 4 % 65536 }
 {
-    (pc / 4) as usize % ENTRIES
+    (pc / 4 % ENTRIES) as usize
 }
 
 /// A word with its instruction, and the address at which it stays; or, where memory may change, an
@@ -56,14 +56,14 @@ impl Decoder {
     ghost use Rattle.std.specs.Prelude.{◌≡◌, ℕ, IfOk, MatchBool, None, Some, true};
     ghost use Rattle.rv_isa.specs.Decoding.{decoded};
     ghost use Rattle.rv_isa.specs.Encoding.{IsInRange};
-    ghost use Rattle.rv_machine.specs.declared.hart.Hart.{Hart};
+    ghost use Rattle.rv_machine.specs.declared.memory.Memory.{Memory};
     ghost use Rattle.rv_machine.specs.Keeping.{AllStay, Keeps, Lasts, Stays};
 
     /// A decoder that has seen no word but that of an instruction that does nothing, at no address.
     pub(crate) fn new(alloc: Global) -> Result<Decoder, NoMemory>
-        ensures { IfOk result (λ decoder. (hart : Hart) → AllStay hart decoder) }
+        ensures { IfOk result (λ decoder. (memory : Memory) → AllStay memory decoder) }
     {
-        let mut entries = filled(alloc, nothing_at(4), ENTRIES)?;
+        let mut entries = filled(alloc, nothing_at(4), ENTRIES as usize)?;
         entries[1] = nothing_at(0);
         Ok(Decoder { entries })
     }
@@ -96,7 +96,7 @@ impl Decoder {
     /// Keeps a word for an address, at which it stays or not; `false` exactly where it is no instruction.
     pub(crate) fn keep(&mut self, pc: u32, word: u32, stays: bool) -> bool
         ensures kept { MatchBool result (Keeps self.new pc word) (decoded word ≡ None) }
-        ensures stay { (hart : Hart) → AllStay hart self.old → (stays ≡ true → Stays hart pc word) → AllStay hart self.new }
+        ensures stay { (memory : Memory) → AllStay memory self.old → (stays ≡ true → Stays memory pc word) → AllStay memory self.new }
     {
         match decode(word) {
             Some(inst) => {

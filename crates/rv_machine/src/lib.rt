@@ -17,6 +17,7 @@ mod hart;
 mod machine;
 mod making;
 mod memory;
+mod registers;
 mod rows;
 mod streams;
 

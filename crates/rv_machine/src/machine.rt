@@ -5,6 +5,7 @@ ghost use Rattle.rv_machine.specs.Keeping.{AllStay};
 use crate::decoder::Decoder;
 use crate::hart::{Hart, Moved};
 use crate::memory::Memory;
+use crate::registers::Registers;
 use lay_base::{NoMemory, Sink, Source, TrapKind};
 use rv_isa::Image;
 use std::alloc::Global;
@@ -50,7 +51,7 @@ pub struct Machine {
     pub(crate) steps: u64,
     pub(crate) ended: Option<MachineEnd>,
     pub(crate) hart: Hart,
-    ghost all_stay: { AllStay hart decoder },
+    ghost all_stay: { AllStay hart.memory decoder },
 }
 
 impl Machine {
@@ -58,7 +59,7 @@ impl Machine {
     ghost use Rattle.rv_isa.specs.declared.image.Image.{Image};
     ghost use Rattle.rv_isa.specs.Placed.{IsPlaced};
     ghost use Rattle.rv_isa.specs.Step.{step};
-    ghost use Rattle.rv_machine.specs.Harts.{places_of, state_of};
+    ghost use Rattle.rv_machine.specs.Harts.{places_of, state_at, state_of, with_pc};
     ghost use Rattle.rv_machine.specs.declared.hart.Moved.TheVariants.{Traps};
     ghost use Rattle.rv_machine.specs.Keeping.{IsReady};
     ghost use Rattle.rv_machine.specs.Stepping.{StepGives};
@@ -67,15 +68,15 @@ impl Machine {
 
     /// Whether the next instruction is kept, and stays where it stands.
     #[inline(always)]
-    fn is_ready(&self) -> bool
-        ensures { result ≡ true → IsReady self.now.hart self.now.decoder }
+    fn is_ready(&self, pc: u32) -> bool
+        ensures { result ≡ true → IsReady self.now.hart.memory self.now.decoder pc }
     {
-        self.decoder.lasts(self.hart.pc)
+        self.decoder.lasts(pc)
     }
 
     /// Whether the next instruction stands in the row of the last one and is kept as it stands.
     fn is_as_kept(&self) -> bool
-        ensures { result ≡ true → IsReady self.now.hart self.now.decoder }
+        ensures { result ≡ true → IsReady self.now.hart.memory self.now.decoder self.now.hart.pc }
     {
         match self.hart.memory.code_word(self.hart.pc) {
             Some(word) => self.decoder.keeps(self.hart.pc, word),
@@ -90,7 +91,7 @@ impl Machine {
         ensures state { state_of self.new.hart ≡ state_of self.old.hart }
         ensures steps { self.new.steps ≡ self.old.steps }
         ensures ready { MatchOption result
-            (IsReady self.new.hart self.new.decoder)
+            (IsReady self.new.hart.memory self.new.decoder self.old.hart.pc)
             (λ kind. StepGives (places_of self.old.hart) (state_of self.old.hart) (state_of self.old.hart) (Traps kind)) }
     {
         if self.is_as_kept() {
@@ -111,33 +112,34 @@ impl Machine {
 
     /// The same, with nothing to be done where the instruction is ready.
     #[inline(always)]
-    fn prepare(&mut self) -> Option<TrapKind>
+    fn prepare(&mut self, pc: u32) -> Option<TrapKind>
         ensures places { places_of self.new.hart ≡ places_of self.old.hart }
-        ensures state { state_of self.new.hart ≡ state_of self.old.hart }
+        ensures state { state_at self.new.hart pc ≡ state_at self.old.hart pc }
         ensures steps { self.new.steps ≡ self.old.steps }
         ensures ready { MatchOption result
-            (IsReady self.new.hart self.new.decoder)
-            (λ kind. StepGives (places_of self.old.hart) (state_of self.old.hart) (state_of self.old.hart) (Traps kind)) }
+            (IsReady self.new.hart.memory self.new.decoder pc)
+            (λ kind. StepGives (places_of self.old.hart) (state_at self.old.hart pc) (state_at self.old.hart pc) (Traps kind)) }
     {
-        if self.is_ready() {
+        if self.is_ready(pc) {
             return None;
         }
+        self.hart.pc = pc;
         self.make_ready()
     }
 
     /// One step, but for what a call of the environment does.
     #[inline(always)]
-    pub(crate) fn step(&mut self) -> Moved
+    pub(crate) fn step(&mut self, pc: &mut u32) -> Moved
         ensures places { places_of self.new.hart ≡ places_of self.old.hart }
         ensures steps { self.new.steps ≡ self.old.steps }
-        ensures moved { StepGives (places_of self.old.hart) (state_of self.old.hart) (state_of self.new.hart) result }
+        ensures moved { StepGives (places_of self.old.hart) (state_at self.old.hart pc.old) (state_at self.new.hart pc.new) result }
     {
-        match self.prepare() {
+        match self.prepare(*pc) {
             None => {
                 // Read where it is kept, whichever way it came there: `execute` has one caller, and so
                 // becomes a part of the loop over the steps, and reads the fields that it uses.
-                let inst = self.decoder.instruction(self.hart.pc);
-                self.hart.execute(inst)
+                let inst = self.decoder.instruction(*pc);
+                self.hart.execute(pc, inst)
             }
             Some(kind) => Moved::Traps(kind),
         }
@@ -145,28 +147,34 @@ impl Machine {
 
     /// One step, with what a call of the environment does.
     #[inline(always)]
-    fn advance<I: Source, O: Sink>(&mut self, input: &mut I, out: &mut O) -> Advance
+    fn advance<I: Source, O: Sink>(&mut self, pc: &mut u32, input: &mut I, out: &mut O) -> Advance
         ensures places { places_of self.new.hart ≡ places_of self.old.hart }
         ensures steps { self.new.steps ≡ self.old.steps }
-        ensures gives { AdvanceGives (step (places_of self.old.hart)) (state_of self.old.hart) (state_of self.new.hart)
+        ensures gives { AdvanceGives (step (places_of self.old.hart)) (state_at self.old.hart pc.old) (state_at self.new.hart pc.new)
             (streams (I.left input.old) (I.faults input.old) (O.written out.old) (O.faults out.old))
             (streams (I.left input.new) (I.faults input.new) (O.written out.new) (O.faults out.new)) result }
     {
-        match self.step() {
+        match self.step(pc) {
             Moved::Goes => Advance::Goes,
             Moved::Exits(status) => Advance::Exits(status),
             Moved::Traps(kind) => Advance::Traps(kind),
             Moved::Breaks => Advance::Breaks,
-            Moved::Calls => self.hart.call(input, out),
+            Moved::Calls => {
+                self.hart.pc = *pc;
+                let answered = self.hart.call(input, out);
+                *pc = self.hart.pc;
+                answered
+            }
         }
     }
 
-    /// The end that the machine came to after so many steps.
-    fn stop(&mut self, steps: u64, end: MachineEnd) -> MachineEnd
+    /// The end that the machine came to after so many steps, at an address.
+    fn stop(&mut self, pc: u32, steps: u64, end: MachineEnd) -> MachineEnd
         ensures end { result ≡ end }
         ensures steps { self.new.steps ≡ steps }
-        ensures hart { self.new.hart ≡ self.old.hart }
+        ensures hart { self.new.hart ≡ with_pc self.old.hart pc }
     {
+        self.hart.pc = pc;
         self.steps = steps;
         end
     }
@@ -179,23 +187,21 @@ impl Machine {
             (streams (I.left input.old) (I.faults input.old) (O.written out.old) (O.faults out.old))
             (streams (I.left input.new) (I.faults input.new) (O.written out.new) (O.faults out.new)) (observed self.new) result }
     {
+        let mut pc = self.hart.pc;
         // Counted down, which takes one instruction less for each step.
         let mut left = limit;
         while left > 0 {
             let done = limit - left;
-            match self.advance(input, out) {
+            match self.advance(&mut pc, input, out) {
                 Advance::Goes => left -= 1,
-                Advance::Exits(status) => return self.stop(done + 1, MachineEnd::Exits(status)),
-                Advance::Traps(kind) => return self.stop(
-                    done + 1,
-                    MachineEnd::Trap(kind, self.hart.pc),
-                ),
-                Advance::Breaks => return self.stop(done + 1, MachineEnd::Break(self.hart.pc)),
-                Advance::ReadFails => return self.stop(done, MachineEnd::ReadFault),
-                Advance::WriteFails => return self.stop(done, MachineEnd::WriteFault),
+                Advance::Exits(status) => return self.stop(pc, done + 1, MachineEnd::Exits(status)),
+                Advance::Traps(kind) => return self.stop(pc, done + 1, MachineEnd::Trap(kind, pc)),
+                Advance::Breaks => return self.stop(pc, done + 1, MachineEnd::Break(pc)),
+                Advance::ReadFails => return self.stop(pc, done, MachineEnd::ReadFault),
+                Advance::WriteFails => return self.stop(pc, done, MachineEnd::WriteFault),
             }
         }
-        self.stop(limit, MachineEnd::StepLimit(limit))
+        self.stop(pc, limit, MachineEnd::StepLimit(limit))
     }
 
     /// A machine that holds the image, with all the memory that it needs. Its registers are 0, and it is
@@ -212,7 +218,7 @@ impl Machine {
             ended: None,
             hart: Hart {
                 memory,
-                registers: [0; 32],
+                registers: Registers::new(),
                 pc: image.entry,
             },
         })
@@ -241,7 +247,7 @@ impl Machine {
         requires { i < 32 }
         ensures { result ≡ slice_index self.now.hart.registers i }
     {
-        self.hart.registers[i as usize]
+        self.hart.registers.get(i)
     }
 
     /// The program counter.

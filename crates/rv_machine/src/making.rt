@@ -31,7 +31,7 @@ fn rows_for(alloc: Global, segments: &[Segment]) -> Result<Vec<Row>, NoMemory>
     for segment in segments {
         let row = Row {
             at: segment.at,
-            size: segment.size,
+            size: segment.size as usize,
             start,
             flags: segment.flags,
         };

@@ -110,10 +110,7 @@ impl Memory {
         requires word { width ≤ 4 }
         ensures { IfSome result (λ place. IsFound self.now.rows.items (length self.now.bytes.items) readable address width place) }
     {
-        match self.loads[register as usize].place_within(address) {
-            Some(place) => Some(place),
-            None => None,
-        }
+        self.loads[register as usize].place_within(address)
     }
 
     /// The same where any row has them, which is found by a walk over all.
@@ -139,10 +136,7 @@ impl Memory {
         requires word { width ≤ 4 }
         ensures { IfSome result (λ place. IsFound self.now.rows.items (length self.now.bytes.items) writable address width place) }
     {
-        match self.stores[register as usize].place_within(address) {
-            Some(place) => Some(place),
-            None => None,
-        }
+        self.stores[register as usize].place_within(address)
     }
 
     /// The same where any row has them, which is found by a walk over all.

@@ -8,7 +8,7 @@ ghost use Rattle.rv_machine.specs.Rows.{Covers, allows, holds, place_in, row_at}
 #[derive(Clone, Copy)]
 pub struct Row {
     pub at: u32,
-    pub size: u32,
+    pub size: usize,
     pub start: usize,
     pub flags: u8,
 }
@@ -26,7 +26,7 @@ impl Row {
     pub fn holds(&self, address: u64) -> bool
         ensures { result ≡ holds self.now address }
     {
-        self.at as u64 <= address && address < self.at as u64 + self.size as u64
+        self.at as u64 <= address && address - (self.at as u64) < self.size as u64
     }
 
     /// The place of an address that the row has, where its bytes may be used so.
@@ -70,9 +70,9 @@ impl Row {
         requires room { self.now.start + self.now.size < 2 ^ 64 }
         ensures { IfSome result (λ place. (holds self.now address ≡ true) × (place ≡ place_in self.now address)) }
     {
-        let offset = address.wrapping_sub(self.at);
+        let offset = address.wrapping_sub(self.at) as usize;
         if offset < self.size {
-            Some(self.start + offset as usize)
+            Some(self.start + offset)
         } else {
             None
         }

@@ -1,29 +1,29 @@
-use Rattle.std.proofs.Common.{◌≡◌, refl, rules}
+use Rattle.std.proofs.Common.{◌≡◌, arith, refl, rules}
 use Rattle.rv_isa.specs.declared.instruction.Inst.TheVariants.{Lui, Auipc, Jal, Jalr, Beq, Bne, Blt, Bge, Bltu, Bgeu, Lb, Lh, Lw, Lbu, Lhu, Sb, Sh}
 use Rattle.rv_isa.specs.declared.instruction.Inst.TheVariants.{Sw, Addi, Slti, Sltiu, Xori, Ori, Andi, Slli, Srli, Srai, Mul, Mulh, Mulhsu, Mulhu, Div, Divu}
 use Rattle.rv_isa.specs.declared.instruction.Inst.TheVariants.{Rem, Remu, Fence, Ecall, Ebreak}
 use Rattle.rv_isa.specs.Step.{executed}
-use Rattle.rv_machine.specs.Harts.{Executes, IsBasic, places_of, state_of}
-use Rattle.rv_machine.proofs.Performing.{performs}
+use Rattle.rv_machine.specs.Harts.{Executes, HasOpcode, IsBasic, places_of, state_at}
+use Rattle.rv_machine.proofs.Performing.{computed, no_call}
 use Rattle.rv_machine.proofs.hart.Hart.execute.Goals as goal
 
 pub returns-in-Sh-clause-moved : goal.returns-in-Sh-clause-moved
 returns-in-Sh-clause-moved c =
-    let moved : Executes (state_of c.args.self.now) (state_of c.store_half.new.self)
-    (executed (places_of c.args.self.now) (state_of c.args.self.now) (Sh c.in-Sh.rs1 c.in-Sh.rs2 c.in-Sh.imm)) c.store_half.result =
+    let moved : Executes (state_at c.args.self.now c.args.pc.now) (state_at c.store_half.new.self c.store_half.new.pc)
+    (executed (places_of c.args.self.now) (state_at c.args.self.now c.args.pc.now) (Sh c.in-Sh.rs1 c.in-Sh.rs2 c.in-Sh.imm)) c.store_half.result =
     search rules in
     rw c.in-Sh.is moved
 
 pub returns-in-Sw-clause-moved : goal.returns-in-Sw-clause-moved
 returns-in-Sw-clause-moved c =
-    let moved : Executes (state_of c.args.self.now) (state_of c.store_word.new.self)
-    (executed (places_of c.args.self.now) (state_of c.args.self.now) (Sw c.in-Sw.rs1 c.in-Sw.rs2 c.in-Sw.imm)) c.store_word.result =
+    let moved : Executes (state_at c.args.self.now c.args.pc.now) (state_at c.store_word.new.self c.store_word.new.pc)
+    (executed (places_of c.args.self.now) (state_at c.args.self.now c.args.pc.now) (Sw c.in-Sw.rs1 c.in-Sw.rs2 c.in-Sw.imm)) c.store_word.result =
     search rules in
     rw c.in-Sw.is moved
 
 -- what no arm above takes has two registers
-pub compute-requires-clause-basic : goal.compute-requires-clause-basic
-compute-requires-clause-basic c =
+pub with_registers-requires-clause-basic : goal.with_registers-requires-clause-basic
+with_registers-requires-clause-basic c =
     let other = c.in_default in
     elim c.args.inst.now as (λ i. c.args.inst.now ≡ i → IsBasic i) [
       | Lui rd imm ↦ λ e. absurd (other.not-Lui rd imm e)
@@ -67,7 +67,19 @@ compute-requires-clause-basic c =
       | _ ↦ λ e. (refl, λ f. absurd cc)
     ] refl
 
+pub returns-in-Addi-clause-moved : goal.returns-in-Addi-clause-moved
+returns-in-Addi-clause-moved c =
+    let opcode : HasOpcode 0x13 c.args.inst.now = search rules in
+    computed (places_of c.args.self.now) (state_at c.args.self.now c.args.pc.now) (state_at c.give.new.self c.give.new.pc) c.args.inst.now _ _ c.give.result
+    (no_call c.args.inst.now 0x13 (omega arith) opcode) c.with_immediate.ensures.word c.give.ensures.moved
+
+pub returns-in-Mul-clause-moved : goal.returns-in-Mul-clause-moved
+returns-in-Mul-clause-moved c =
+    let opcode : HasOpcode 0x33 c.args.inst.now = search rules in
+    computed (places_of c.args.self.now) (state_at c.args.self.now c.args.pc.now) (state_at c.give-in-Mul.new.self c.give-in-Mul.new.pc) c.args.inst.now _ _
+    c.give-in-Mul.result (no_call c.args.inst.now 0x33 (omega arith) opcode) c.multiplied_or_divided.ensures.word c.give-in-Mul.ensures.moved
+
 pub returns-in_default-clause-moved : goal.returns-in_default-clause-moved
 returns-in_default-clause-moved c =
-    performs (places_of c.args.self.now) (state_of c.args.self.now) (state_of c.compute.new.self) c.args.inst.now c.compute.result c.in_default.not-Ecall
-    c.compute.ensures.moved
+    computed (places_of c.args.self.now) (state_at c.args.self.now c.args.pc.now) (state_at c.give-in_default.new.self c.give-in_default.new.pc) c.args.inst.now _ _
+    c.give-in_default.result c.in_default.not-Ecall c.with_registers.ensures.word c.give-in_default.ensures.moved

@@ -17,9 +17,10 @@ returns-in-Ok-clause-gives g c = (
         [],
         reads.rest,
         appends_nothing (g.O.Sink.written c.args.out.now),
-        λ output. read_goes (places_of c.args.self.now) c.args.self.now.registers c.args.self.now.pc (content_of c.args.self.now.memory)
-            (content_of c.read_in.new.self) input c.in-Ok.n (sym c.if-not-may_use.ensures)
-            (record { number = reads.number; rest = refl; stored = reads.stored }) output,
+        λ output. rw c.put.ensures (read_goes (places_of c.args.self.now) c.args.self.now.registers c.args.self.now.pc (content_of c.args.self.now.memory)
+            (content_of c.read_in.new.self) input c.in-Ok.n c.get-address.result c.get-count.result c.get-address.ensures c.get-count.ensures
+            (sym c.if-not-may_use.ensures)
+            (record { number = reads.number; rest = refl; stored = reads.stored }) output),
       ),
 )
 

@@ -1,6 +1,6 @@
 use Rattle.std.proofs.Common.{◌≡◌, ◌≤◌, ◌-◌, ℕ, List, Some}
 use Rattle.rv_machine.specs.declared.hart.Hart.{Hart}
-use Rattle.rv_machine.specs.Harts.{places_of, state_of}
+use Rattle.rv_machine.specs.Harts.{places_of, state_of, with_pc}
 use Rattle.rv_machine.specs.Advances.{AreSteady, Streams, streams}
 use Rattle.rv_machine.proofs.Reaching.{Reached}
 use Rattle.rv_machine.proofs.machine.Machine.go.Given as goal
@@ -13,7 +13,7 @@ pub record Far (hart here : Hart) (before now : Streams) (i : ℕ) : Type 0 wher
 abbrev pub invariant-loop-left : goal.invariant-loop-left
 invariant-loop-left g l = record {
   count : l.left ≤ l.fn.limit;
-  far : Far l.fn.self.hart l.self.hart
+  far : Far l.fn.self.hart (with_pc l.self.hart l.pc)
       (streams (g.I.Source.left l.fn.input) (g.I.Source.faults l.fn.input) (g.O.Sink.written l.fn.out) (g.O.Sink.faults l.fn.out))
       (streams (g.I.Source.left l.input) (g.I.Source.faults l.input) (g.O.Sink.written l.out) (g.O.Sink.faults l.out)) (l.fn.limit - l.left);
 }

@@ -13,6 +13,6 @@ invariant_of-self c =
     let old = c.args.self.now in
     let kept = c.in-Some.ensures.kept in
     record {
-      all_stay = c.keep.ensures.stay _ (all_stay_fetched old.hart c.fetch.new.self kept old.decoder old.all_stay)
-          (λ t. word_fetched old.hart c.fetch.new.self kept c.in-Some.word c.in-Some.ensures.value (c.stays-stays.ensures t));
+      all_stay = c.keep.ensures.stay _ (all_stay_fetched old.hart.memory c.fetch.new.self old.hart.pc kept old.decoder old.all_stay)
+          (λ t. word_fetched old.hart.memory c.fetch.new.self old.hart.pc kept c.in-Some.word c.in-Some.ensures.value (c.stays-stays.ensures t));
     }

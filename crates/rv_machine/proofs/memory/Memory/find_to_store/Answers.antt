@@ -1,10 +1,10 @@
 use Rattle.std.proofs.Common.{arith}
+use Rattle.std.proofs.lemmas.Option.{IfSome_then}
 use Rattle.rv_isa.specs.Memory.{writable}
 use Rattle.rv_machine.proofs.Places.{word_within, narrower}
 use Rattle.rv_machine.proofs.memory.Memory.find_to_store.Goals as goal
 
-pub returns-in-Some : goal.returns-in-Some
-returns-in-Some c =
-    narrower _ _ writable c.args.address 4 c.args.width c.in-Some.place c.requires.word
-    (word_within _ _ writable c.args.address c.in-Some.place _ (c.args.self.now.stores_begin c.args.register _ (omega arith)) c.in-Some.ensures.0
-    c.in-Some.ensures.1)
+pub returns : goal.returns
+returns c = IfSome_then c.place_within.result c.place_within.ensures (λ place found.
+    narrower _ _ writable c.args.address 4 c.args.width place c.requires.word
+    (word_within _ _ writable c.args.address place _ (c.args.self.now.stores_begin c.args.register _ (omega arith)) found.0 found.1))

@@ -28,6 +28,13 @@ returns-in_err-place c =
     ap (λ rows. row_at rows c.args.address) (sym c.deref.ensures.value) ∙ sym c.in_ok-row.ensures in
     rw c.from_residual-in_err-place.ensures (mapped_not _ _ c.args.flag _ _ c.args.self.now.sound e c.in_err-place.ensures)
 
+pub overflow_add-left : goal.overflow_add-left
+overflow_add-left c =
+    let e : row_at c.args.self.now.rows.items c.args.address ≡ Some c.in_ok-row.row =
+    ap (λ rows. row_at rows c.args.address) (sym c.deref.ensures.value) ∙ sym c.in_ok-row.ensures in
+    let serves = row_at_serves _ _ _ _ c.args.self.now.sound e in
+    omega (arith, serves.end)
+
 pub overflow_sub-left : goal.overflow_sub-left
 overflow_sub-left c =
     let e : row_at c.args.self.now.rows.items c.args.address ≡ Some c.in_ok-row.row =
